@@ -1,0 +1,29 @@
+-- A draw is below 2^32: all that the layers above know of it.
+-- Assumes nothing.
+use Prim.Native.Nat.{ℕ, _+_, _*_, _/_, _%_, _^_, _<_}
+use native.Mathlib.Omega.{arith}
+use native.Mathlib.Nat.{div-le-self}
+use lib.Dec.{eqb}
+use lib.Bits.{xor-lt}
+use Rattle.placement.specs.Draw.{modulus, stepOf, nonzero, seedOf, xorLeft, xorRight, roundOf, drawOf}
+use Rattle.placement.proofs.Tests.{byBool}
+
+left< : (n s : ℕ) → s < modulus → xorLeft n s < modulus
+unfolding xorLeft
+left< n s h = xor-lt 32 s (s * 2 ^ n % modulus) h (omega arith)
+
+right< : (n s : ℕ) → s < modulus → xorRight n s < modulus
+unfolding xorRight
+right< n s h = xor-lt 32 s (s / 2 ^ n) h (omega (arith, div-le-self s (2 ^ n)))
+
+round< : (s : ℕ) → s < modulus → roundOf s < modulus
+unfolding roundOf
+round< s h = left< 5 _ (right< 17 _ (left< 13 s h))
+
+seed< : (id k : ℕ) → seedOf id k < modulus
+unfolding seedOf nonzero
+seed< id k = byBool (eqb ((id + stepOf k) % modulus) 0) (λ e. rw e (omega arith)) (λ e. rw e (omega arith))
+
+pub draw< : (id k : ℕ) → drawOf id k < modulus
+unfolding drawOf
+draw< id k = round< _ (round< _ (round< _ (seed< id k)))

@@ -1,0 +1,48 @@
+-- Laws of comparing fractions: with a draw, over all naturals, and with one another.
+-- Assumes nothing.
+use Prim.Native.Nat.{ℕ, _*_, _≤_, _<_}
+use mathlib.Core.Path.{_≡_}
+use mathlib.Core.Bool.{true, false}
+use native.Mathlib.Omega.{arith}
+use native.Mathlib.Nat.{mul-le-mul-right, mul-lt-mul-of-pos-right, lt-of-mul-lt-mul-right}
+use lib.Dec.{leb, ltb}
+use borrow.Author.Tests.{ltb-true, lt-ltb, le-ltb, leb-true, leb-false, le-leb}
+use Rattle.placement.specs.declared.Fraction.{Fraction}
+use Rattle.placement.specs.Fraction.{exceeds, atLeast, raise}
+use Rattle.placement.proofs.Tests.{byBool}
+
+pub one-exceeds : (m x : ℕ) → x < m → exceeds m (record { num = 1; den = 1 }) x ≡ true
+unfolding exceeds
+one-exceeds m x h = lt-ltb (x * 1) (1 * m) (omega arith)
+
+pub zero-exceeds-none : (m x : ℕ) → exceeds m (record { num = 0; den = 1 }) x ≡ false
+unfolding exceeds
+zero-exceeds-none m x = le-ltb (x * 1) (0 * m) (omega arith)
+
+-- what exceeds a draw still does when the fraction grows
+pub exceeds-grows : (m : ℕ) (p q : Fraction) (x : ℕ) → 1 ≤ q .den → atLeast q p ≡ true → exceeds m p x ≡ true → exceeds m q x ≡ true
+unfolding exceeds atLeast
+exceeds-grows m p q x pos more e =
+    let cross = leb-true (p .num * q .den) (q .num * p .den) more in
+    let l = ltb-true (x * p .den) (p .num * m) e in
+    let one = mul-lt-mul-of-pos-right {k = q .den} l pos in
+    let two = mul-le-mul-right m cross in
+    lt-ltb (x * q .den) (q .num * m) (lt-of-mul-lt-mul-right (p .den) (omega (arith, one, two)))
+
+pub atLeast-refl : (p : Fraction) → atLeast p p ≡ true
+unfolding atLeast
+atLeast-refl p = le-leb (p .num * p .den) (p .num * p .den) (omega arith)
+
+-- of two fractions one is at least the other
+pub atLeast-other : (p q : Fraction) → atLeast p q ≡ false → atLeast q p ≡ true
+unfolding atLeast
+atLeast-other p q e = le-leb (p .num * q .den) (q .num * p .den) (omega (arith, leb-false (q .num * p .den) (p .num * q .den) e))
+
+-- the raised fraction is at least both
+pub raise-old : (p q : Fraction) → atLeast (raise p q) p ≡ true
+unfolding raise
+raise-old p q = byBool (atLeast p q) (λ e. rw e (atLeast-refl p)) (λ e. rw e (atLeast-other p q e))
+
+pub raise-new : (p q : Fraction) → atLeast (raise p q) q ≡ true
+unfolding raise
+raise-new p q = byBool (atLeast p q) (λ e. rw e e) (λ e. rw e (atLeast-refl q))

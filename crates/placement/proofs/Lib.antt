@@ -1,0 +1,6 @@
+pub mod Tests
+pub mod Below
+pub mod Product
+pub mod Draws
+pub mod Fractions
+pub mod Rules

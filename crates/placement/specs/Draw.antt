@@ -1,0 +1,35 @@
+-- The draw of an id on a server (document 01, "The draw"): xorshift of 32 bits, shifts 13, 17 and 5.
+-- Server is document 01's shelf, id its ticket number.
+use Prim.Native.Nat.{ℕ, _+_, _*_, _/_, _%_, _^_}
+use mathlib.Core.Bool.{cond}
+use lib.Bits.{bitXor}
+use lib.Dec.{eqb}
+
+-- 2^32: steps, seeds and draws are numbers below it
+abbrev pub modulus : ℕ
+modulus = 4294967296
+
+-- the step of server k
+unfoldable pub stepOf : ℕ → ℕ
+stepOf k = (k + 1) * 2654435769 % modulus
+
+-- a seed of 0 becomes 1
+unfoldable pub nonzero : ℕ → ℕ
+nonzero s = cond (eqb s 0) 1 s
+
+unfoldable pub seedOf : ℕ → ℕ → ℕ
+seedOf id k = nonzero ((id + stepOf k) % modulus)
+
+-- s xor s shifted left, the low 32 bits kept; s xor s shifted right
+unfoldable pub xorLeft : ℕ → ℕ → ℕ
+xorLeft n s = bitXor s (s * 2 ^ n % modulus)
+
+unfoldable pub xorRight : ℕ → ℕ → ℕ
+xorRight n s = bitXor s (s / 2 ^ n)
+
+unfoldable pub roundOf : ℕ → ℕ
+roundOf s = xorLeft 5 (xorRight 17 (xorLeft 13 s))
+
+-- the seed after three rounds
+unfoldable pub drawOf : ℕ → ℕ → ℕ
+drawOf id k = roundOf (roundOf (roundOf (seedOf id k)))

@@ -1,0 +1,5 @@
+pub mod Below
+pub mod Draw
+pub mod Fraction
+pub mod Rule
+pub mod KnownDraws

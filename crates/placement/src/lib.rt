@@ -1,0 +1,119 @@
+// The published method on plain numbers: the draw of an id on a server, the comparison of a fraction with a draw,
+// and WriteP. No table and no medium.
+ghost use mathlib.Core.Path.{_≡_};
+ghost use Prim.Native.Nat.{_<_};
+ghost use Rattle.placement.specs.Draw.{modulus, stepOf, seedOf, roundOf, drawOf};
+ghost use Rattle.placement.specs.Fraction.{exceeds, atLeast};
+ghost use Rattle.placement.specs.Below.{nth, total};
+ghost use Rattle.placement.specs.Rule.{shareOf, writeServer, Bounded};
+
+// A fraction as document 01 keeps it: a pair, not reduced.
+pub struct Fraction {
+    pub num: u32,
+    pub den: u32,
+}
+
+// The step of a server. There are at most 256 servers.
+pub fn step(server: usize) -> u32
+    requires { ⌜ server < 256 ⌝ }
+    ensures { λ r. ⌜ r ≡ stepOf server ⌝ }
+{
+    ((server + 1) * 2654435769 % 4294967296) as u32
+}
+
+// The seed of an id on a server; never 0.
+pub fn seed(id: u32, server: usize) -> u32
+    requires { ⌜ server < 256 ⌝ }
+    ensures { λ r. ⌜ r ≡ seedOf id server ⌝ }
+{
+    let s = std::num::wrapping_add_u32(id, step(server));
+    if s == 0 { 1 } else { s }
+}
+
+// One round of xorshift.
+pub fn round(s: u32) -> u32
+    ensures { λ r. ⌜ r ≡ roundOf s ⌝ }
+{
+    let a = s ^ (s << 13);
+    let b = a ^ (a >> 17);
+    b ^ (b << 5)
+}
+
+// The draw of an id on a server.
+pub fn draw(id: u32, server: usize) -> u32
+    requires { ⌜ server < 256 ⌝ }
+    ensures { λ r. ⌜ r ≡ drawOf id server ⌝ }
+{
+    round(round(round(seed(id, server))))
+}
+
+// Whether a fraction exceeds a draw's RAND, which is the draw over 2^32.
+pub fn exceeds(f: Fraction, draw: u32) -> bool
+    ensures { λ r. ⌜ r ≡ exceeds modulus f draw ⌝ }
+{
+    (draw as u64) * (f.den as u64) < (f.num as u64) * 4294967296
+}
+
+// Whether one fraction is at least another.
+pub fn at_least(p: Fraction, q: Fraction) -> bool
+    ensures { λ r. ⌜ r ≡ atLeast p q ⌝ }
+{
+    (q.num as u64) * (p.den as u64) <= (p.num as u64) * (q.den as u64)
+}
+
+// WriteP of a server with this weight, `sum` being the weights of the servers up to it, its own among them.
+pub fn write_p(server: usize, weight: u32, sum: u32) -> Fraction
+    ensures { λ r. ⌜ r ≡ shareOf server weight sum ⌝ }
+{
+    if server == 0 {
+        return Fraction { num: 1, den: 1 };
+    }
+    if weight == 0 {
+        return Fraction { num: 0, den: 1 };
+    }
+    Fraction {
+        num: weight,
+        den: sum,
+    }
+}
+
+// Whether a server with this fraction takes an id: the fraction exceeds the server's draw. With WriteP it is the write
+// rule, with ReadP the read rule.
+pub fn takes(f: Fraction, id: u32, server: usize) -> bool
+    requires { ⌜ server < 256 ⌝ }
+    ensures { λ r. ⌜ r ≡ exceeds modulus f (drawOf id server) ⌝ }
+{
+    exceeds(f, draw(id, server))
+}
+
+// The sum of the first `count` weights.
+pub fn sum_weights(weights: &[u32; 256], count: usize) -> u32
+    requires { ⌜ Bounded (now weights) count ⌝ }
+    ensures { λ r. ⌜ r ≡ total (nth (now (weights .entry))) count ⌝ }
+{
+    let mut sum: u32 = 0;
+    let mut i: usize = 0;
+    while i < count {
+        sum += weights[i];
+        i += 1;
+    }
+    sum
+}
+
+// The write server of an id among `count` servers: from the highest down, the first whose WriteP exceeds its draw.
+pub fn write_server(weights: &[u32; 256], count: usize, id: u32) -> usize
+    requires { ⌜ Bounded (now weights) count ⌝ }
+    ensures { λ r. ⌜ r ≡ writeServer (nth (now (weights .entry))) count id ⌝ }
+{
+    let mut sum = sum_weights(weights, count);
+    let mut k = count;
+    while 0 < k {
+        k -= 1;
+        let weight = weights[k];
+        if takes(write_p(k, weight, sum), id, k) {
+            return k;
+        }
+        sum -= weight;
+    }
+    0
+}
