@@ -1,15 +1,19 @@
--- Laws of choosing and adding among the numbers below n.
+-- Laws of testing, choosing, counting and adding among the numbers below n.
 -- Assumes nothing.
 use Prim.Native.Nat.{ℕ, zero, suc, _+_, _-_, _*_, _≤_, _<_}
-use mathlib.Core.Path.{_≡_, refl, sym, subst}
+use mathlib.Core.List.{List, [], _∷_, _++_, List·Memᴰ, List·Memᴰ·head, List·Memᴰ·not-nil, List·Memᴰ·append-cases, List·Memᴰ·eq-of-singleton, Memᴰ·append-left, Memᴰ·append-right}
+use mathlib.Core.Logic.{_⊎_, inl, inr}
+use lib.ListN.{length, length-set}
+use lib.Seq.{getD-set-same, getD-set-other}
+use mathlib.Core.Path.{_≡_, refl, sym, ap, _∙_, subst}
 use mathlib.Core.Bool.{Bool, true, false, cond}
 use mathlib.Core.Option.{some}
 use native.Mathlib.Numerals.{add-one, sub-one}
 use native.Mathlib.Omega.{arith}
 use lib.Dec.{eqb, ltb}
 use borrow.Author.Tests.{eqb-true, eqb-false, ltb-true, ltb-false}
-use Rattle.placement.specs.Below.{highest, orZero, total}
-use Rattle.placement.proofs.Tests.{byBool, true-not-false}
+use Rattle.placement.specs.Below.{nth, allBelow, highest, orZero, upward, countBelow, total, setBelow}
+use Rattle.placement.proofs.Tests.{byBool, true-not-false, and-l, and-r, and-i}
 
 -- k is below n where it is below suc n and n does not pass
 not-top : (p : ℕ → Bool) (n k : ℕ) → k < suc n → p k ≡ true → p n ≡ false → k < n
@@ -76,3 +80,87 @@ pub highest-last : (p : ℕ → Bool) (n : ℕ) (b : Bool) → 0 < n → p (n - 
 unfolding highest
 highest-last p zero b l e = absurd (omega arith)
 highest-last p (suc n) b l e = let d : p n ≡ b = rw sub-one at e in rw (sub-one, d)
+
+-- a test of every number below n
+pub allBelow-in : (p : ℕ → Bool) (n : ℕ) → ((k : ℕ) → k < n → p k ≡ true) → allBelow p n ≡ true
+unfolding allBelow
+allBelow-in p zero h = refl
+allBelow-in p (suc n) h = and-i (p n) (allBelow p n) (h n (omega arith)) (allBelow-in p n (λ k l. h k (omega arith)))
+
+pub allBelow-out : (p : ℕ → Bool) (n : ℕ) → allBelow p n ≡ true → (k : ℕ) → k < n → p k ≡ true
+unfolding allBelow
+allBelow-out p zero e k l = absurd (omega arith)
+allBelow-out p (suc n) e k l = byBool (eqb k n)
+    (λ d. rw (eqb-true k n d) (and-l (p n) (allBelow p n) e))
+    (λ d. allBelow-out p n (and-r (p n) (allBelow p n) e) k (omega (arith, eqb-false k n d)))
+
+-- one that fails
+pub allBelow-not : (p : ℕ → Bool) (n k : ℕ) → k < n → p k ≡ false → allBelow p n ≡ false
+allBelow-not p n k l e = byBool (allBelow p n) (λ d. absurd (true-not-false (allBelow-out p n d k l) e)) (λ d. d)
+
+-- one number more, as a loop counts
+pub allBelow-more : (p : ℕ → Bool) (n : ℕ) → allBelow p n ≡ true → p n ≡ true → allBelow p (n + 1) ≡ true
+unfolding allBelow
+allBelow-more p n a b = rw (add-one, b, a)
+
+pub allBelow-cong : (p q : ℕ → Bool) (n : ℕ) → ((k : ℕ) → k < n → p k ≡ q k) → allBelow p n ≡ allBelow q n
+unfolding allBelow
+allBelow-cong p q zero h = refl
+allBelow-cong p q (suc n) h = rw (h n (omega arith), allBelow-cong p q n (λ k l. h k (omega arith)))
+
+-- the numbers that pass, as a list
+pub upward-in : (p : ℕ → Bool) (n k : ℕ) → k < n → p k ≡ true → List·Memᴰ k (upward p n)
+unfolding upward
+upward-in p zero k l q = absurd (omega arith)
+upward-in p (suc n) k l q = byBool (eqb k n)
+    (λ d. Memᴰ·append-right (upward p n) {t = cond (p n) (n ∷ []) []} (rw (ap p (sym (eqb-true k n d)) ∙ q) (List·Memᴰ·head (eqb-true k n d))))
+    (λ d. Memᴰ·append-left {s = upward p n} (cond (p n) (n ∷ []) []) (upward-in p n k (omega (arith, eqb-false k n d)) q))
+
+pub upward-out : (p : ℕ → Bool) (n k : ℕ) → List·Memᴰ k (upward p n) → (k < n) × (p k ≡ true)
+unfolding upward
+upward-out p zero k m = absurd (List·Memᴰ·not-nil m)
+upward-out p (suc n) k m = go (upward-out p n k) (List·Memᴰ·append-cases (upward p n) m)
+  where
+    go : (List·Memᴰ k (upward p n) → (k < n) × (p k ≡ true)) → List·Memᴰ k (upward p n) ⊎ List·Memᴰ k (cond (p n) (n ∷ []) []) → (k < suc n) × (p k ≡ true)
+    go ih (inl d) = let i = ih d in (omega arith, i .1)
+    go ih (inr d) = byBool (p n)
+        (λ e. let q : k ≡ n = List·Memᴰ·eq-of-singleton (rw e at d) in (omega arith, subst (λ (i : ℕ). p i ≡ true) (sym q) e))
+        (λ e. absurd (List·Memᴰ·not-nil {a = k} (rw e at d)))
+
+pub upward-cong : (p q : ℕ → Bool) (n : ℕ) → ((k : ℕ) → k < n → p k ≡ q k) → upward p n ≡ upward q n
+unfolding upward
+upward-cong p q zero h = refl
+upward-cong p q (suc n) h = rw (h n (omega arith), upward-cong p q n (λ k l. h k (omega arith)))
+
+-- one number more, as a loop counts
+pub upward-more : (p : ℕ → Bool) (n : ℕ) (b : Bool) → p n ≡ b → upward p (n + 1) ≡ upward p n ++ cond b (n ∷ []) []
+unfolding upward
+upward-more p n b e = rw (add-one, e)
+
+-- how many pass
+pub countBelow-cong : (p q : ℕ → Bool) (n : ℕ) → ((k : ℕ) → k < n → p k ≡ q k) → countBelow p n ≡ countBelow q n
+unfolding countBelow
+countBelow-cong p q zero h = refl
+countBelow-cong p q (suc n) h = rw (h n (omega arith), countBelow-cong p q n (λ k l. h k (omega arith)))
+
+bit-le : (b : Bool) → cond b 1 0 ≤ 1
+bit-le true = omega arith
+bit-le false = omega arith
+
+pub countBelow-le : (p : ℕ → Bool) (n : ℕ) → countBelow p n ≤ n
+unfolding countBelow
+countBelow-le p zero = omega arith
+countBelow-le p (suc n) = omega (arith, bit-le (p n), countBelow-le p n)
+
+-- lists set below n
+pub length-setBelow : (f : ℕ → ℕ) (n : ℕ) (xs : List ℕ) → length (setBelow f n xs) ≡ length xs
+unfolding setBelow
+length-setBelow f zero xs = refl
+length-setBelow f (suc n) xs = length-set (setBelow f n xs) n (f n) ∙ length-setBelow f n xs
+
+pub setBelow-at : (f : ℕ → ℕ) (n : ℕ) (xs : List ℕ) → n ≤ length xs → (k : ℕ) → k < n → nth (setBelow f n xs) k ≡ f k
+unfolding setBelow
+setBelow-at f zero xs h k l = absurd (omega arith)
+setBelow-at f (suc n) xs h k l = byBool (eqb k n)
+    (λ d. rw (eqb-true k n d) (getD-set-same (setBelow f n xs) n (f n) 0 (rw length-setBelow h)))
+    (λ d. getD-set-other (setBelow f n xs) n k (f n) 0 (eqb-false k n d) ∙ setBelow-at f n xs (omega arith) k (omega (arith, eqb-false k n d)))

@@ -5,7 +5,6 @@ use mathlib.Core.Path.{_≡_}
 use mathlib.Core.Bool.{true, false}
 use native.Mathlib.Omega.{arith}
 use native.Mathlib.Nat.{mul-le-mul-right, mul-lt-mul-of-pos-right, lt-of-mul-lt-mul-right}
-use lib.Dec.{leb, ltb}
 use borrow.Author.Tests.{ltb-true, lt-ltb, le-ltb, leb-true, leb-false, le-leb}
 use Rattle.placement.specs.declared.Fraction.{Fraction}
 use Rattle.placement.specs.Fraction.{exceeds, atLeast, raise}
@@ -38,11 +37,7 @@ pub atLeast-other : (p q : Fraction) → atLeast p q ≡ false → atLeast q p �
 unfolding atLeast
 atLeast-other p q e = le-leb (p .num * q .den) (q .num * p .den) (omega (arith, leb-false (q .num * p .den) (p .num * q .den) e))
 
--- the raised fraction is at least both
+-- the raised fraction is at least the old one
 pub raise-old : (p q : Fraction) → atLeast (raise p q) p ≡ true
 unfolding raise
 raise-old p q = byBool (atLeast p q) (λ e. rw e (atLeast-refl p)) (λ e. rw e (atLeast-other p q e))
-
-pub raise-new : (p q : Fraction) → atLeast (raise p q) q ≡ true
-unfolding raise
-raise-new p q = byBool (atLeast p q) (λ e. rw e e) (λ e. rw e (atLeast-refl q))

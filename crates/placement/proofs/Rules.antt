@@ -1,18 +1,17 @@
 -- Laws of the published rule.
 -- Assumes nothing.
-use Prim.Native.Nat.{ℕ, zero, suc, _+_, _-_, _*_, _≤_, _<_}
-use mathlib.Core.Path.{_≡_, refl, sym, ap}
-use mathlib.Core.Bool.{Bool, true, false}
+use Prim.Native.Nat.{ℕ, zero, suc, _-_, _≤_, _<_}
+use mathlib.Core.Path.{_≡_, refl, ap}
+use mathlib.Core.Bool.{true}
 use native.Mathlib.Numerals.{sub-one}
 use native.Mathlib.Omega.{arith}
-use native.Mathlib.Nat.{mul-le-mul}
 use lib.Dec.{eqb}
 use borrow.Author.Tests.{eqb-false}
 use Rattle.placement.specs.declared.Fraction.{Fraction}
-use Rattle.placement.specs.Below.{highest, orZero, total}
+use Rattle.placement.specs.Below.{orZero, total}
 use Rattle.placement.specs.Draw.{modulus, drawOf}
 use Rattle.placement.specs.Fraction.{exceeds}
-use Rattle.placement.specs.Rule.{shareOf, writeP, takes, pick, writeServer, readable, Picked}
+use Rattle.placement.specs.Rule.{shareOf, writeP, takes, pick, writeServer, Picked}
 use Rattle.placement.proofs.Tests.{byBool}
 use Rattle.placement.proofs.Below.{Highest, highest-is, highest-only, highest-cong, total-cong, total-le}
 use Rattle.placement.proofs.Draws.{draw<}

@@ -1,13 +1,18 @@
--- Choosing and adding among the numbers below n.
+-- Testing, choosing, counting and adding among the numbers below n.
 use Prim.Native.Nat.{ℕ, zero, suc, _+_}
-use mathlib.Core.Bool.{Bool, cond}
+use mathlib.Core.Bool.{Bool, true, cond, _&&_}
 use mathlib.Core.Option.{Option, none, some}
-use mathlib.Core.List.{List}
-use lib.ListN.{getD}
+use mathlib.Core.List.{List, [], _∷_, _++_}
+use lib.ListN.{getD, set}
 
 -- what stands at position k of a list of numbers
 abbrev pub nth : List ℕ → ℕ → ℕ
 nth xs k = getD xs k 0
+
+-- every number below n passes
+unfoldable pub allBelow : (ℕ → Bool) → ℕ → Bool
+allBelow p zero = true
+allBelow p (suc n) = p n && allBelow p n
 
 -- the highest number below n that passes
 unfoldable pub highest : (ℕ → Bool) → ℕ → Option ℕ
@@ -18,7 +23,27 @@ unfoldable pub orZero : Option ℕ → ℕ
 orZero none = 0
 orZero (some n) = n
 
+-- the numbers below n that pass, lowest first
+unfoldable pub upward : (ℕ → Bool) → ℕ → List ℕ
+upward p zero = []
+upward p (suc n) = upward p n ++ cond (p n) (n ∷ []) []
+
+-- the same, highest first
+unfoldable pub downward : (ℕ → Bool) → ℕ → List ℕ
+downward p zero = []
+downward p (suc n) = cond (p n) (n ∷ []) [] ++ downward p n
+
+-- how many numbers below n pass
+unfoldable pub countBelow : (ℕ → Bool) → ℕ → ℕ
+countBelow p zero = 0
+countBelow p (suc n) = cond (p n) 1 0 + countBelow p n
+
 -- f 0 + .. + f (n - 1)
 unfoldable pub total : (ℕ → ℕ) → ℕ → ℕ
 total f zero = 0
 total f (suc n) = total f n + f n
+
+-- a list with each position k below n set to f k
+unfoldable pub setBelow : (ℕ → ℕ) → ℕ → List ℕ → List ℕ
+setBelow f zero xs = xs
+setBelow f (suc n) xs = set (setBelow f n xs) n (f n)
