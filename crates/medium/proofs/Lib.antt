@@ -1,0 +1,5 @@
+pub mod Places
+pub mod Entries
+pub mod Burns
+pub mod Marks
+mod Invalidated

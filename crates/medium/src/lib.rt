@@ -1,0 +1,100 @@
+// The words of the write-once medium: where an entry stands, whether it is live, whether words are blank, and the marks
+// that invalidate an id's entries on one server.
+ghost use mathlib.Core.Path.{_≡_};
+ghost use Prim.Native.Nat.{_<_, _≤_, _+_};
+ghost use lib.ListN.{length};
+ghost use Rattle.medium.specs.Entry.{serverAt, entryAt, live, blankRun, Inside};
+ghost use Rattle.medium.specs.Burn.{burnAll, marksOn, invalidations};
+
+// A word that nothing was written to.
+pub const BLANK: u32 = 4294967295;
+
+// 2^30: the content of a word is below it. A value's word is its value plus this, a mark's its content plus twice this.
+pub const CONTENT_RANGE: u32 = 1073741824;
+
+// The contents of a mark.
+pub const REPLACED: u32 = 1;
+
+pub const DELETED: u32 = 2;
+
+// The first word of a server, and of the one after the last.
+pub fn server_at(capacity: usize, server: usize) -> usize
+    requires { ⌜ (capacity ≤ 65536) × (server ≤ 256) ⌝ }
+    ensures { λ r. ⌜ r ≡ serverAt capacity server ⌝ }
+{
+    3 * capacity * server
+}
+
+// The first word of an entry.
+pub fn entry_at(capacity: usize, server: usize, entry: usize) -> usize
+    requires { ⌜ (capacity ≤ 65536) × (server < 256) × (entry ≤ capacity) ⌝ }
+    ensures { λ r. ⌜ r ≡ entryAt capacity server entry ⌝ }
+{
+    server_at(capacity, server) + 3 * entry
+}
+
+// Whether the `n` words from `from` on are blank.
+pub fn is_blank(medium: &[u32], from: usize, n: usize) -> bool
+    requires { ⌜ from + n ≤ length (now medium) ⌝ }
+    ensures { λ r. ⌜ r ≡ blankRun (now (medium .entry)) from n ⌝ }
+{
+    let mut i: usize = 0;
+    while i < n {
+        if medium[from + i] != BLANK {
+            return false;
+        }
+        i += 1;
+    }
+    true
+}
+
+// Whether an entry of a server with this many entries used is live for an id.
+pub fn is_live(
+    medium: &[u32],
+    capacity: usize,
+    used: usize,
+    id: u32,
+    server: usize,
+    entry: usize,
+) -> bool
+    requires { ⌜ Inside capacity server (now medium) ⌝ }
+    requires { ⌜ entry < capacity ⌝ }
+    ensures { λ r. ⌜ r ≡ live capacity used (now (medium .entry)) id server entry ⌝ }
+{
+    if used <= entry {
+        return false;
+    }
+    let at = entry_at(capacity, server, entry);
+    if medium[at] != id {
+        return false;
+    }
+    medium[at + 2] == BLANK
+}
+
+// Burns a mark of this content on each live entry of an id on a server, the lowest first, and answers how many it burned.
+pub fn invalidate_server(
+    medium: &mut [u32],
+    capacity: usize,
+    used: usize,
+    id: u32,
+    server: usize,
+    content: u32,
+) -> usize
+    requires { ⌜ Inside capacity server (now medium) ⌝ }
+    requires { ⌜ used ≤ capacity ⌝ }
+    requires { ⌜ content < 1073741824 ⌝ }
+    ensures count { λ r. ⌜ r ≡ length (marksOn capacity used (now (medium .entry)) id server) ⌝ }
+    ensures words { λ _. ⌜ now (medium .exit) ≡ burnAll (now (medium .entry)) (invalidations content (marksOn capacity used (now (medium .entry)) id server)) ⌝ }
+{
+    let mut n: usize = 0;
+    let mut j: usize = 0;
+    while j < used {
+        if is_live(medium, capacity, used, id, server, j) {
+            let at = entry_at(capacity, server, j);
+            medium[at + 2] = 2147483648 + content;
+            n += 1;
+        }
+        j += 1;
+    }
+    n
+}
