@@ -1,0 +1,5 @@
+pub mod General
+pub mod Upkeep
+pub mod Soundness
+pub mod Agreement
+pub mod Raising

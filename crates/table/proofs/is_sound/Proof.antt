@@ -1,0 +1,180 @@
+-- `table::is_sound` meets its contract. The invariant: every server so far is sound, and the sum of the weights so far.
+use Prim.Native.Nat.{ℕ, _+_, _*_, _-_, _≤_}
+use mathlib.Core.Path.{_≡_, refl, sym, _∙_}
+use mathlib.Core.Bool.{Bool, true, false}
+use mathlib.Core.List.{List}
+use native.Mathlib.Omega.{arith}
+use borrow.Author.Needs.{needs}
+use borrow.Author.Tests.{le-leb, lt-leb, not-true, not-false}
+use Rattle.placement.specs.declared.Fraction.{Fraction}
+use Rattle.placement.specs.Below.{nth, allBelow, total}
+use Rattle.placement.specs.Rule.{shareOf, writeP}
+use Rattle.placement.proofs.Below.{total-more, allBelow-more}
+use Rattle.table.specs.declared.Table.{Table}
+use Rattle.table.specs.Sound.{weightOf, usedOf, readP, readSound, serverSound, sound}
+use Rattle.table.proofs.Soundness.{tested-sound, server-unsound}
+use Rattle.table.proofs.is_sound.Statement.{statement}
+use Rattle.table.proofs.is_sound.Tie as tie
+
+-- the table of the arguments
+abbrev whole : ℕ → ℕ → List ℕ → List ℕ → List ℕ → List ℕ → Table
+whole capacity count weights used numerators denominators = record {
+  capacity = capacity;
+  count = count;
+  weights = weights;
+  used = used;
+  numerators = numerators;
+  denominators = denominators;
+}
+
+-- a server by the tests that the code makes, WriteP being worked out from the sum so far
+tested : (t : Table) (k sum : ℕ) (write : Fraction) (b : Bool) → weightOf t k ≤ t .capacity → usedOf t k ≤ t .capacity → sum ≡ total (weightOf t) k
+    → write ≡ shareOf k (weightOf t k) (sum + weightOf t k) → b ≡ readSound (readP t k) write → serverSound t k ≡ b
+unfolding serverSound writeP total
+tested t k sum write b light fits s w r = rw (le-leb _ _ light, le-leb _ _ fits, ← s, ← w) (sym r)
+
+abbrev Inv-loop : tie.InvT-loop
+Inv-loop capacity count weights used numerators denominators sum₀ i₀ sum i =
+    (i ≤ count) × (count ≤ 256) × (capacity ≤ 65536)
+    × (allBelow (serverSound (whole capacity count weights used numerators denominators)) i ≡ true)
+    × (sum ≡ total (nth weights) i) × (sum ≤ 65536 * i)
+
+abbrev μ-loop : tie.MeasureT-loop
+μ-loop capacity count weights used numerators denominators sum₀ i₀ sum i = count - i
+
+abbrev T : tie.Start Inv-loop μ-loop → Table
+T s = whole (s .args .capacity) (s .args .count) (s .args .weights .now) (s .args .used .now) (s .args .numerators .now) (s .args .denominators .now)
+
+-- the table at the loop's head
+abbrev TL : tie.At-loop Inv-loop μ-loop → Table
+TL l = T (l .before .before .before .before)
+
+returns : tie.Need-returns Inv-loop μ-loop
+unfolding sound
+returns c = rw (lt-leb _ _ (c .if1 .taken))
+
+returns-2 : tie.Need-returns-2 Inv-loop μ-loop
+unfolding sound
+returns-2 c = rw (le-leb _ _ (c .before .if1 .left), lt-leb _ _ (c .if2 .taken))
+
+returns-3 : tie.Need-returns-3 Inv-loop μ-loop
+unfolding sound
+returns-3 c = rw (le-leb _ _ (c .before .before .if1 .left), le-leb _ _ (c .before .if2 .left), lt-leb _ _ (c .if3 .taken))
+
+loop-holds : tie.Need-loop-holds Inv-loop μ-loop
+unfolding allBelow total
+loop-holds c = (search needs, search needs, search needs, refl, refl, search needs)
+
+mul-weight : tie.Need-mul-weight Inv-loop μ-loop
+mul-weight c = search needs
+
+element-copy-out-weight : tie.Need-element-copy-out-weight Inv-loop μ-loop
+element-copy-out-weight c = search needs
+
+-- one server that fails
+fails : (l : tie.In-loop Inv-loop μ-loop) → serverSound (TL (l .before)) (l .before .loop .i) ≡ false → sound (TL (l .before)) ≡ false
+fails l e = server-unsound (TL (l .before)) (l .before .loop .i) (l .loop-test .taken) e
+
+returns-4 : tie.Need-returns-4 Inv-loop μ-loop
+unfolding serverSound
+returns-4 c = sym (fails (c .before .before) (rw (lt-leb _ _ (c .if4 .taken))))
+
+mul-if5 : tie.Need-mul-if5 Inv-loop μ-loop
+mul-if5 c = search needs
+
+element-copy-out-if5 : tie.Need-element-copy-out-if5 Inv-loop μ-loop
+element-copy-out-if5 c = search needs
+
+returns-5 : tie.Need-returns-5 Inv-loop μ-loop
+unfolding serverSound
+returns-5 c =
+    let four = c .before .before in
+    sym (fails (four .before .before) (rw (le-leb _ _ (four .if4 .left), lt-leb _ _ (c .if5 .taken))))
+
+add-sum : tie.Need-add-sum Inv-loop μ-loop
+add-sum c = search needs
+
+mul-t13 : tie.Need-mul-t13 Inv-loop μ-loop
+mul-t13 c = search needs
+
+element-copy-out-t16 : tie.Need-element-copy-out-t16 Inv-loop μ-loop
+element-copy-out-t16 c = search needs
+
+mul-t21 : tie.Need-mul-t21 Inv-loop μ-loop
+mul-t21 c = search needs
+
+element-copy-out-t24 : tie.Need-element-copy-out-t24 Inv-loop μ-loop
+element-copy-out-t24 c = search needs
+
+write-p-requires : tie.Need-write-p-requires Inv-loop μ-loop
+write-p-requires c κs = search needs
+
+read-sound-requires : tie.Need-read-sound-requires Inv-loop μ-loop
+read-sound-requires c κs = search needs
+
+-- where the server's tests begin
+abbrev L : tie.After-read-sound Inv-loop μ-loop → tie.In-loop Inv-loop μ-loop
+L c = c .before .before .before .before .before .before .before .before
+
+-- the server is as sound as its ReadP
+server-here : (c : tie.After-read-sound Inv-loop μ-loop) → serverSound (TL (L c .before)) (L c .before .loop .i) ≡ c .read-sound .result
+server-here c =
+    let l = L c .before in
+    let five = c .before .before .before .before in
+    let four = five .before .before in
+    tested (TL l) (l .loop .i) (l .loop .sum) (c .before .write-p .result) (c .read-sound .result) (four .if4 .left) (five .if5 .left) (l .loop .inv .4) (c .before .write-p .ensures) (c .read-sound .ensures)
+
+returns-6 : tie.Need-returns-6 Inv-loop μ-loop
+returns-6 c = sym (fails (L (c .before)) (server-here (c .before) ∙ not-true _ (c .if6 .taken)))
+
+add-i : tie.Need-add-i Inv-loop μ-loop
+add-i c = search needs
+
+loop-less : tie.Need-loop-less Inv-loop μ-loop
+loop-less c = search needs
+
+loop-again : tie.Need-loop-again Inv-loop μ-loop
+loop-again c =
+    let l = L (c .before) .before in (
+      search needs,
+      search needs,
+      search needs,
+      allBelow-more (serverSound (TL l)) (l .loop .i) (l .loop .inv .3) (server-here (c .before) ∙ not-false _ (c .if6 .left)),
+      rw total-more (cc),
+      search needs,
+    )
+
+returns-7 : tie.Need-returns-7 Inv-loop μ-loop
+returns-7 c =
+    let l = c .before in
+    let e : l .loop .i ≡ TL l .count = omega arith in
+    sym (tested-sound (TL l) (l .before .before .before .if1 .left) (l .loop .inv .2) (l .loop .inv .1) (rw e at (l .loop .inv .3)))
+
+pub is-sound-spec : {M : Type 1} → statement M
+is-sound-spec =
+    tie.close
+    (tie.spec
+    Inv-loop
+    μ-loop
+    returns
+    returns-2
+    returns-3
+    loop-holds
+    mul-weight
+    element-copy-out-weight
+    returns-4
+    mul-if5
+    element-copy-out-if5
+    returns-5
+    add-sum
+    mul-t13
+    element-copy-out-t16
+    mul-t21
+    element-copy-out-t24
+    write-p-requires
+    read-sound-requires
+    returns-6
+    add-i
+    loop-less
+    loop-again
+    returns-7)

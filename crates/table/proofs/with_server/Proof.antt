@@ -1,0 +1,108 @@
+-- `table::with_server` meets its contract. The sum is in range because the table is sound.
+use Prim.Native.Nat.{ℕ, _+_, _*_, _≤_, _<_}
+use mathlib.Core.Path.{_≡_}
+use native.Mathlib.Numerals.{add-one}
+use native.Mathlib.Omega.{arith}
+use lib.ListN.{length, set}
+use lib.Seq.{getD-set-same, getD-set-other}
+use mathlib.Core.List.{List}
+use borrow.Author.Needs.{needs}
+use Rattle.placement.specs.declared.Fraction.{Fraction}
+use Rattle.placement.specs.Below.{nth, total}
+use Rattle.placement.specs.Rule.{shareOf, writeP}
+use Rattle.placement.proofs.Below.{total-le, total-cong}
+use Rattle.table.specs.declared.Table.{Table}
+use Rattle.table.specs.Sound.{weightOf}
+use Rattle.table.specs.Upkeep.{withServer}
+use Rattle.table.proofs.Soundness.{sound-facts, sound-bounded}
+use Rattle.table.proofs.with_server.Statement.{statement}
+use Rattle.table.proofs.with_server.Tie as tie
+
+-- WriteP of the new server, from the sum of the weights before it
+new-write : (ws : List ℕ) (n w : ℕ) → n < length ws → writeP (nth (set ws n w)) n ≡ shareOf n w (total (nth ws) n + w)
+unfolding writeP total
+new-write ws n w l = rw (getD-set-same ws n w 0 l, total-cong (nth (set ws n w)) (nth ws) n (λ k h. getD-set-other ws n k w 0 (λ e. omega arith)))
+
+-- the table that the code puts together
+made : (t : Table) (weight sum : ℕ) (write : Fraction) → t .count < length (t .weights) → sum ≡ total (weightOf t) (t .count) → write ≡ shareOf (t .count) weight (sum + weight)
+    → record {
+      capacity = t .capacity;
+      count = t .count + 1;
+      weights = set (t .weights) (t .count) weight;
+      used = set (t .used) (t .count) 0;
+      numerators = set (t .numerators) (t .count) (write .num);
+      denominators = set (t .denominators) (t .count) (write .den);
+    }
+    ≡ withServer t weight
+unfolding withServer
+made t weight sum write l s e = rw (new-write (t .weights) (t .count) weight l, ← s, ← e, add-one)
+
+-- the table lent
+abbrev T₀ : tie.Start → Table
+T₀ s = s .args .t1
+
+sum-weights-requires : tie.Need-sum-weights-requires
+sum-weights-requires c κs = sound-bounded (T₀ (c .before .before)) (sound-facts _ (c .before .before .pre .0))
+
+sum-fits : (c : tie.After-sum-weights) → c .sum-weights .result + c .before .before .before .args .weight ≤ 257 * 65536
+sum-fits c =
+    let a = c .before .before .before in
+    let s = sound-facts (T₀ a) (a .pre .0) in
+    omega (arith, c .sum-weights .ensures, total-le (weightOf (T₀ a)) 65536 (T₀ a .count) (sound-bounded (T₀ a) s .light))
+
+add-write-p : tie.Need-add-write-p
+add-write-p c = omega (arith, sum-fits c)
+
+write-p-requires : tie.Need-write-p-requires
+write-p-requires c κs = search needs
+
+mul-next : tie.Need-mul-next
+mul-next c = search needs
+
+element-write-next : tie.Need-element-write-next
+element-write-next c = search needs
+
+mul-next-2 : tie.Need-mul-next-2
+mul-next-2 c = search needs
+
+element-write-next-2 : tie.Need-element-write-next-2
+element-write-next-2 c = search needs
+
+mul-next-3 : tie.Need-mul-next-3
+mul-next-3 c = search needs
+
+element-write-next-3 : tie.Need-element-write-next-3
+element-write-next-3 c = search needs
+
+mul-next-4 : tie.Need-mul-next-4
+mul-next-4 c = search needs
+
+element-write-next-4 : tie.Need-element-write-next-4
+element-write-next-4 c = search needs
+
+add-next : tie.Need-add-next
+add-next c = search needs
+
+returns : tie.Need-returns
+returns c =
+    let a = c .before .before .before .before in
+    let few : T₀ a .count < length (T₀ a .weights) = search needs in
+    made (T₀ a) (a .args .weight) _ _ few (c .before .sum-weights .ensures) (c .write-p .ensures)
+
+pub with-server-spec : {M : Type 1} → statement M
+with-server-spec =
+    tie.close
+    (tie.spec
+    sum-weights-requires
+    add-write-p
+    write-p-requires
+    mul-next
+    element-write-next
+    mul-next-2
+    element-write-next-2
+    mul-next-3
+    element-write-next-3
+    mul-next-4
+    element-write-next-4
+    add-next
+    returns)
