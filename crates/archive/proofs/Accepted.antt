@@ -1,0 +1,108 @@
+-- What is known where no row of a call applies.
+-- Assumes nothing.
+use Prim.Native.Nat.{ℕ, _≤_, _<_}
+use mathlib.Core.Path.{_≡_, refl}
+use mathlib.Core.Bool.{Bool, true, false, not, _||_}
+use mathlib.Core.List.{List}
+use native.Mathlib.Omega.{arith}
+use lib.ListN.{length}
+use lib.Dec.{leb, ltb, eqb}
+use borrow.Author.Tests.{ltb-false, leb-false, eqb-false, not-false}
+use Rattle.placement.proofs.Tests.{true-not-false}
+use Rattle.medium.specs.Word.{contentRange}
+use Rattle.medium.specs.Entry.{serverAt, AllInside}
+use Rattle.table.specs.declared.Table.{Table}
+use Rattle.table.specs.Sound.{usedOf, sound}
+use Rattle.table.proofs.Soundness.{sound-facts}
+use Rattle.archive.specs.Refusal.{firstOf}
+use Rattle.archive.specs.Calls.{addServerRows, reweightRows, short, target, writeRows, lookupRows}
+use Rattle.archive.proofs.Refusals.{passed}
+use Rattle.archive.proofs.Searches.{target-is}
+
+pub record ServerAccepted (t : Table) (weight : ℕ) : Type 0 where
+  pub isSound : sound t ≡ true
+  pub light : weight ≤ t .capacity
+  pub few : t .count < 256
+
+pub addServer-accepted : (t : Table) (m : List ℕ) (weight : ℕ) → firstOf (addServerRows t m weight) ≡ 0 → ServerAccepted t weight
+unfolding addServerRows
+addServer-accepted t m weight z =
+    let a = passed 0 (not (sound t)) _ z in
+    let b = passed 1 (ltb (t .capacity) weight) _ (a .1) in
+    let d = passed 3 (eqb (t .count) 256) _ (b .1) in
+    let s = sound-facts t (not-false _ (a .0)) in
+    record {
+      isSound = not-false _ (a .0);
+      light = ltb-false _ _ (b .0);
+      few = omega (arith, eqb-false (t .count) 256 (d .0));
+    }
+
+pub record WeightAccepted (t : Table) (server weight : ℕ) : Type 0 where
+  pub isSound : sound t ≡ true
+  pub light : weight ≤ t .capacity
+  pub there : server < t .count
+
+pub reweight-accepted : (t : Table) (server weight : ℕ) → firstOf (reweightRows t server weight) ≡ 0 → WeightAccepted t server weight
+unfolding reweightRows
+reweight-accepted t server weight z =
+    let a = passed 0 (not (sound t)) _ z in
+    let b = passed 1 (ltb (t .capacity) weight) _ (a .1) in
+    let d = passed 2 (leb (t .count) server) _ (b .1) in
+    record { isSound = not-false _ (a .0); light = ltb-false _ _ (b .0); there = leb-false _ _ (d .0) }
+
+-- the tests that delete and lookup share
+pub record Ready (t : Table) (m : List ℕ) : Type 0 where
+  pub isSound : sound t ≡ true
+  pub inside : AllInside (t .capacity) (t .count) (usedOf t) m
+
+pub record ReadyTests (t : Table) (m : List ℕ) (id : ℕ) : Type 0 where
+  pub unsound : not (sound t) ≡ false
+  pub wide : leb contentRange id ≡ false
+  pub none : eqb (t .count) 0 ≡ false
+  pub isShort : short t m ≡ false
+
+pub ready-tests : (t : Table) (m : List ℕ) (id : ℕ) → firstOf (lookupRows t m id) ≡ 0 → ReadyTests t m id
+unfolding lookupRows
+ready-tests t m id z =
+    let a = passed 0 (not (sound t)) _ z in
+    let b = passed 1 (leb contentRange id) _ (a .1) in
+    let d = passed 2 (eqb (t .count) 0) _ (b .1) in
+    let e = passed 4 (short t m) _ (d .1) in
+    record { unsound = a .0; wide = b .0; none = d .0; isShort = e .0 }
+
+pub lookup-accepted : (t : Table) (m : List ℕ) (id : ℕ) → firstOf (lookupRows t m id) ≡ 0 → Ready t m
+unfolding short
+lookup-accepted t m id z =
+    let r = ready-tests t m id z in
+    let s = sound-facts t (not-false _ (r .unsound)) in
+    record { isSound = not-false _ (r .unsound); inside = record { small = s .high; few = s .few; fits = λ k l. s .server k l .fits; long = ltb-false _ _ (r .isShort) } }
+
+or-r : (a b : Bool) → a || b ≡ false → b ≡ false
+or-r true b e = absurd (true-not-false refl e)
+or-r false b e = e
+
+-- a write goes to a server that is there and has an entry left
+pub record WriteAccepted (t : Table) (m : List ℕ) (id value : ℕ) : Type 0 where
+  pub isSound : sound t ≡ true
+  pub small : value < contentRange
+  pub there : target t id < t .count
+  pub free : usedOf t (target t id) < t .capacity
+  pub inside : AllInside (t .capacity) (t .count) (usedOf t) m
+
+pub write-accepted : (t : Table) (m : List ℕ) (id value : ℕ) → firstOf (writeRows t m id value) ≡ 0 → WriteAccepted t m id value
+unfolding writeRows short
+write-accepted t m id value z =
+    let a = passed 0 (not (sound t)) _ z in
+    let b = passed 1 (leb contentRange id || leb contentRange value) _ (a .1) in
+    let d = passed 2 (eqb (t .count) 0) _ (b .1) in
+    let e = passed 4 (ltb (length m) (serverAt (t .capacity) (t .count))) _ (d .1) in
+    let f = passed 5 (eqb (usedOf t (target t id)) (t .capacity)) _ (e .1) in
+    let s = sound-facts t (not-false _ (a .0)) in
+    let l = target-is t id (omega (arith, eqb-false (t .count) 0 (d .0))) .below in
+    record {
+      isSound = not-false _ (a .0);
+      small = leb-false _ _ (or-r (leb contentRange id) (leb contentRange value) (b .0));
+      there = l;
+      free = omega (arith, s .server (target t id) l .fits, eqb-false (usedOf t (target t id)) (t .capacity) (f .0));
+      inside = record { small = s .high; few = s .few; fits = λ k l. s .server k l .fits; long = ltb-false _ _ (e .0) };
+    }

@@ -1,0 +1,234 @@
+-- Positions at or above the count have no bearing on any call: tables that agree below the count get the same replies
+-- and media, and tables that agree below the count.
+-- Assumes nothing.
+use Prim.Native.Nat.{ℕ, suc, _+_, _-_, _*_, _≤_, _<_}
+use mathlib.Core.Path.{_≡_, refl, sym, ap, ap₂, _∙_, subst}
+use mathlib.Core.Bool.{Bool, false, not, _&&_, _||_}
+use mathlib.Core.List.{List, _∷_}
+use native.Mathlib.Omega.{arith}
+use lib.ListN.{length}
+use lib.Dec.{leb, ltb, eqb}
+use borrow.Author.Tests.{leb-false, eqb-false, not-false}
+use Rattle.placement.specs.Draw.{modulus, drawOf}
+use Rattle.placement.specs.Rule.{pick, writeServer}
+use Rattle.placement.proofs.Tests.{byBool, true-not-false}
+use Rattle.placement.proofs.Rules.{pick-cong}
+use Rattle.medium.specs.Word.{contentRange, idWord, valueWord, replaced, deleted}
+use Rattle.medium.specs.Entry.{serverAt, entryAt, blankRun}
+use Rattle.medium.specs.Burn.{burnAll, marksOver, invalidations}
+use Rattle.medium.proofs.Marks.{marksOver-cong}
+use Rattle.table.specs.declared.Table.{Table}
+use Rattle.table.specs.Sound.{weightOf, usedOf, sound}
+use Rattle.table.specs.Upkeep.{withEntry}
+use Rattle.table.proofs.Upkeep.{Arrays, withServer-arrays, withWeight-arrays, withEntry-arrays}
+use Rattle.table.proofs.Soundness.{sound-facts}
+use Rattle.table.proofs.Agreement.{AgreeBelow, agree-sound, agree-withServer, agree-withWeight, agree-withEntry}
+use Rattle.archive.specs.Refusal.{firstOf}
+use Rattle.archive.specs.Reply.{onServer}
+use Rattle.archive.specs.Search.{reads}
+use Rattle.archive.specs.Calls.{addServerRows, addServerReply, addServerTable, reweightRows, reweightReply, reweightTable, short, target, writeRows, writeMarks, writeBurns, writeReply, writeTable, writeMedium, deleteRows, deleteMarks, deleteReply, deleteMedium, lookupRows, lookupReply}
+use Rattle.archive.proofs.Refusals.{passed, first-same, settle-both, reply-same}
+use Rattle.archive.proofs.Searches.{reads-same, target-is, deleted-some}
+use Rattle.archive.proofs.OpenedByValues.{opened-by-values}
+
+-- two tables that agree below the count, with their arrays' lengths
+pub record Alike (t u : Table) : Type 0 where
+  pub agree : AgreeBelow t u
+  pub one : Arrays t
+  pub other : Arrays u
+
+-- what an accepted call says of the count
+module _ (t : Table) where
+  few : not (sound t) ≡ false → t .count ≤ 256
+  few e = sound-facts t (not-false _ e) .few
+
+  some-server : eqb (t .count) 0 ≡ false → 0 < t .count
+  some-server e = omega (arith, eqb-false (t .count) 0 e)
+
+  addServer-few : (m : List ℕ) (weight : ℕ) → firstOf (addServerRows t m weight) ≡ 0 → t .count < 256
+  unfolding addServerRows
+  addServer-few m weight z =
+      let a = passed 0 (not (sound t)) _ z in
+      let b = passed 1 (ltb (t .capacity) weight) _ (a .1) in
+      let c = passed 3 (eqb (t .count) 256) _ (b .1) in
+      omega (arith, few (a .0), eqb-false (t .count) 256 (c .0))
+
+  reweight-there : (server weight : ℕ) → firstOf (reweightRows t server weight) ≡ 0 → (t .count ≤ 256) × (server < t .count)
+  unfolding reweightRows
+  reweight-there server weight z =
+      let a = passed 0 (not (sound t)) _ z in
+      let b = passed 1 (ltb (t .capacity) weight) _ (a .1) in
+      let c = passed 2 (leb (t .count) server) _ (b .1) in
+      (few (a .0), leb-false _ _ (c .0))
+
+  write-there : (m : List ℕ) (id value : ℕ) → firstOf (writeRows t m id value) ≡ 0 → (t .count ≤ 256) × (0 < t .count)
+  unfolding writeRows
+  write-there m id value z =
+      let a = passed 0 (not (sound t)) _ z in
+      let b = passed 1 (leb contentRange id || leb contentRange value) _ (a .1) in
+      let c = passed 2 (eqb (t .count) 0) _ (b .1) in
+      (few (a .0), some-server (c .0))
+
+module _ (t u : Table) (g : AgreeBelow t u) where
+  same-sound : not (sound t) ≡ not (sound u)
+  same-sound = ap not (agree-sound t u g)
+
+  same-short : (m : List ℕ) → short t m ≡ short u m
+  unfolding short
+  same-short m = ap₂ (λ (c n : ℕ). ltb (length m) (serverAt c n)) (g .capacity) (g .count)
+
+  same-reads : (id k : ℕ) → k < t .count → reads t id k ≡ reads u id k
+  same-reads id k l = reads-same t u id k (g .read k l)
+
+  -- the rows of each call
+
+  addServer-rows : (m : List ℕ) (weight : ℕ) → firstOf (addServerRows t m weight) ≡ firstOf (addServerRows u m weight)
+  unfolding addServerRows
+  addServer-rows m weight =
+      first-same 1 _ _ _ _ same-sound (λ _.
+      first-same 2 _ _ _ _ (ap (λ (c : ℕ). ltb c weight) (g .capacity)) (λ _.
+      first-same 4 _ _ _ _ (ap (λ (n : ℕ). eqb n 256) (g .count)) (λ _.
+      first-same 5 _ _ _ _ (ap₂ (λ (c n : ℕ). ltb (length m) (serverAt c (suc n))) (g .capacity) (g .count)) (λ _.
+      first-same 7 _ _ _ _ (ap₂ (λ (c n : ℕ). not (blankRun m (serverAt c n) (3 * c))) (g .capacity) (g .count)) (λ _. refl)))))
+
+  reweight-rows : (server weight : ℕ) → firstOf (reweightRows t server weight) ≡ firstOf (reweightRows u server weight)
+  unfolding reweightRows
+  reweight-rows server weight =
+      first-same 1 _ _ _ _ same-sound (λ _.
+      first-same 2 _ _ _ _ (ap (λ (c : ℕ). ltb c weight) (g .capacity)) (λ _.
+      first-same 3 _ _ _ _ (ap (λ (n : ℕ). leb n server) (g .count)) (λ e.
+      first-same 9 _ _ _ _ (ap₂ (λ (c n : ℕ). ltb (c - n) weight) (g .capacity) (g .used server (leb-false _ _ e))) (λ _. refl))))
+
+  -- what a write or a delete finds
+
+  same-target : (id : ℕ) → target t id ≡ target u id
+  unfolding target writeServer
+  same-target id =
+      pick-cong modulus (drawOf id) (weightOf t) (weightOf u) (t .count) (g .weight)
+      ∙ ap (pick modulus (drawOf id) (weightOf u)) (g .count)
+
+  same-used : (id : ℕ) → 0 < t .count → usedOf t (target t id) ≡ usedOf u (target u id)
+  same-used id l = g .used (target t id) (target-is t id l .below) ∙ ap (usedOf u) (same-target id)
+
+  same-entry : (id : ℕ) → 0 < t .count
+      → entryAt (t .capacity) (target t id) (usedOf t (target t id)) ≡ entryAt (u .capacity) (target u id) (usedOf u (target u id))
+  same-entry id l =
+      ap₂ (λ (c k : ℕ). entryAt c k (usedOf t (target t id))) (g .capacity) (same-target id)
+      ∙ ap (entryAt (u .capacity) (target u id)) (same-used id l)
+
+  same-marks : (m : List ℕ) (id : ℕ) (p q : ℕ → Bool) → ((k : ℕ) → k < t .count → p k ≡ q k)
+      → marksOver (t .capacity) (usedOf t) m id p (t .count) ≡ marksOver (u .capacity) (usedOf u) m id q (u .count)
+  same-marks m id p q h =
+      marksOver-cong (t .capacity) (usedOf t) (usedOf u) m m id p q (t .count) h (g .used) (λ k j l i. record { idSame = refl; markSame = refl })
+      ∙ ap₂ (λ (c n : ℕ). marksOver c (usedOf u) m id q n) (g .capacity) (g .count)
+
+  write-marks : (m : List ℕ) (id : ℕ) → writeMarks t m id ≡ writeMarks u m id
+  unfolding writeMarks
+  write-marks m id = same-marks m id _ _ (λ k l. ap₂ _&&_ (ap (λ (n : ℕ). leb n k) (same-target id)) (same-reads id k l))
+
+  delete-marks : (m : List ℕ) (id : ℕ) → deleteMarks t m id ≡ deleteMarks u m id
+  unfolding deleteMarks
+  delete-marks m id = same-marks m id _ _ (same-reads id)
+
+  write-burns : (m : List ℕ) (id value : ℕ) → 0 < t .count → writeBurns t m id value ≡ writeBurns u m id value
+  unfolding writeBurns
+  write-burns m id value l = ap₂ (λ (a : ℕ) (marks : List ℕ).
+      record { address = a + 1; word = valueWord value }
+      ∷ record { address = a; word = idWord id }
+      ∷ invalidations replaced marks)
+      (same-entry id l) (write-marks m id)
+
+  write-rows : (m : List ℕ) (id value : ℕ) → firstOf (writeRows t m id value) ≡ firstOf (writeRows u m id value)
+  unfolding writeRows
+  write-rows m id value =
+      first-same 1 _ _ _ _ same-sound (λ _.
+      first-same 2 _ _ _ _ refl (λ _.
+      first-same 3 _ _ _ _ (ap (λ (n : ℕ). eqb n 0) (g .count)) (λ e.
+      first-same 5 _ _ _ _ (same-short m) (λ _.
+      first-same 6 _ _ _ _ (ap₂ eqb (same-used id (some-server t e)) (g .capacity)) (λ _.
+      first-same 7 _ _ _ _ (rw (same-entry id (some-server t e))) (λ _. refl))))))
+
+  delete-rows : (m : List ℕ) (id : ℕ) → firstOf (deleteRows t m id) ≡ firstOf (deleteRows u m id)
+  unfolding deleteRows
+  delete-rows m id =
+      first-same 1 _ _ _ _ same-sound (λ _.
+      first-same 2 _ _ _ _ refl (λ _.
+      first-same 3 _ _ _ _ (ap (λ (n : ℕ). eqb n 0) (g .count)) (λ _.
+      first-same 5 _ _ _ _ (same-short m) (λ _.
+      first-same 8 _ _ _ _ (ap not (deleted-some t m id ∙ ap (λ (l : List ℕ). not (eqb (length l) 0)) (delete-marks m id) ∙ sym (deleted-some u m id))) (λ _. refl)))))
+
+  -- calls that leave the table
+
+  pub delete-below : (m : List ℕ) (id : ℕ) → (deleteReply t m id ≡ deleteReply u m id) × (deleteMedium t m id ≡ deleteMedium u m id)
+  unfolding deleteReply deleteMedium
+  delete-below m id =
+      let e = delete-rows m id in (
+        reply-same _ _ e _ _ (λ _. ap (λ (l : List ℕ). onServer 0 (length l)) (delete-marks m id)),
+        settle-both _ _ e (_≡_ {A = List ℕ}) _ _ _ _ (λ _. ap (λ (l : List ℕ). burnAll m (invalidations deleted l)) (delete-marks m id)) refl,
+      )
+
+  pub lookup-below : (m : List ℕ) (id : ℕ) → lookupReply t m id ≡ lookupReply u m id
+  unfolding lookupReply lookupRows
+  lookup-below m id = byBool (sound t)
+      (λ s. opened-by-values t u m m id s (sym (agree-sound t u g) ∙ s) (record {
+        capacity = g .capacity;
+        count = g .count;
+        weights = g .weight;
+        readPs = g .read;
+        long = refl;
+        used = λ k l o. g .used k l;
+        words = λ k a l o b c. refl;
+      }))
+      (λ s. reply-same _ _ (first-same 1 _ _ _ _ same-sound (λ e. absurd (true-not-false (not-false _ e) s))) _ _
+      (λ z. absurd (true-not-false (not-false _ (passed 0 (not (sound t)) _ z .0)) s)))
+
+module _ (t u : Table) (a : Alike t u) where
+  pub addServer-below : (m : List ℕ) (weight : ℕ)
+      → (addServerReply t m weight ≡ addServerReply u m weight) × Alike (addServerTable t m weight) (addServerTable u m weight)
+  unfolding addServerReply addServerTable
+  addServer-below m weight =
+      let g = a .agree in
+      let e = addServer-rows t u g m weight in (
+        reply-same _ _ e _ _ (λ _. ap (λ (k : ℕ). onServer k 0) (g .count)),
+        settle-both _ _ e Alike _ _ t u (λ z. record {
+          agree = agree-withServer t u weight (a .one) (a .other) (addServer-few t m weight z) g;
+          one = withServer-arrays t weight (a .one);
+          other = withServer-arrays u weight (a .other);
+        }) a,
+      )
+
+  pub reweight-below : (server weight : ℕ)
+      → (reweightReply t server weight ≡ reweightReply u server weight) × Alike (reweightTable t server weight) (reweightTable u server weight)
+  unfolding reweightReply reweightTable
+  reweight-below server weight =
+      let g = a .agree in
+      let e = reweight-rows t u g server weight in (
+        reply-same _ _ e _ _ (λ _. refl),
+        settle-both _ _ e Alike _ _ t u (λ z.
+            let f = reweight-there t server weight z in
+            record {
+              agree = agree-withWeight t u server weight (a .one) (a .other) (f .0) (f .1) g;
+              one = withWeight-arrays t server weight (a .one);
+              other = withWeight-arrays u server weight (a .other);
+            }) a,
+      )
+
+  pub write-below : (m : List ℕ) (id value : ℕ)
+      → (writeReply t m id value ≡ writeReply u m id value)
+      × Alike (writeTable t m id value) (writeTable u m id value)
+      × (writeMedium t m id value ≡ writeMedium u m id value)
+  unfolding writeReply writeTable writeMedium
+  write-below m id value =
+      let g = a .agree in
+      let e = write-rows t u g m id value in (
+        reply-same _ _ e _ _ (λ _. ap₂ (λ (k : ℕ) (l : List ℕ). onServer k (length l)) (same-target t u g id) (write-marks t u g m id)),
+        settle-both _ _ e Alike _ _ t u (λ z.
+            let f = write-there t m id value z in
+            record {
+              agree = subst (λ (k : ℕ). AgreeBelow (withEntry t (target t id)) (withEntry u k)) (same-target t u g id)
+                  (agree-withEntry t u (target t id) (a .one) (a .other) (f .0) (target-is t id (f .1) .below) g);
+              one = withEntry-arrays t (target t id) (a .one);
+              other = withEntry-arrays u (target u id) (a .other);
+            }) a,
+        settle-both _ _ e (_≡_ {A = List ℕ}) _ _ _ _ (λ z. ap (burnAll m) (write-burns t u g m id value (write-there t m id value z .1))) refl,
+      )

@@ -1,0 +1,14 @@
+pub mod Refusals
+pub mod Answers
+pub mod Distinct
+pub mod Accepted
+mod Planning
+mod Finding
+mod Invalidating
+pub mod NewEntry
+mod Done
+pub mod Searches
+pub mod Once
+pub mod OpenedByValues
+pub mod BelowCount
+pub mod Small

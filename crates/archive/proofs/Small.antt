@@ -1,0 +1,94 @@
+-- The server, the opened count and the invalidated count of every reply are 32-bit numbers, whatever the table and the
+-- medium hold: a refused call has zeros there, and an accepted call has a sound table.
+-- Assumes nothing.
+use Prim.Native.Nat.{ℕ, zero, suc, _*_, _≤_, _<_}
+use mathlib.Core.Path.{_≡_}
+use mathlib.Core.Bool.{Bool, true, cond, not}
+use mathlib.Core.List.{List, []}
+use mathlib.Core.Option.{Option, none, some}
+use native.Mathlib.Omega.{arith}
+use lib.ListN.{length, length-append}
+use lib.Dec.{eqb}
+use borrow.Author.Tests.{not-false}
+use Rattle.placement.specs.Below.{nth}
+use Rattle.placement.proofs.Tests.{byBool}
+use Rattle.placement.proofs.Below.{countBelow-le}
+use Rattle.medium.specs.Word.{tagOf}
+use Rattle.medium.specs.Entry.{valueAt}
+use Rattle.medium.specs.Burn.{marksOn, marksOver}
+use Rattle.table.specs.declared.Table.{Table}
+use Rattle.table.specs.Sound.{usedOf, sound}
+use Rattle.table.proofs.Soundness.{sound-facts}
+use Rattle.archive.specs.Refusal.{Row, firstOf}
+use Rattle.archive.specs.declared.Reply.{Reply}
+use Rattle.archive.specs.Reply.{onServer, replyBy}
+use Rattle.archive.specs.Search.{Place, searchFor}
+use Rattle.archive.specs.Calls.{addServerRows, addServerReply, reweightRows, reweightReply, target, writeRows, writeMarks, writeReply, deleteRows, deleteMarks, deleteReply, lookupRows, metReply, lookupReply}
+use Rattle.archive.specs.Opened.{opens}
+use Rattle.archive.proofs.Refusals.{settle-either, passed}
+use Rattle.archive.proofs.Accepted.{addServer-accepted, reweight-accepted, write-accepted, lookup-accepted}
+use Rattle.archive.proofs.Invalidating.{length-marksOn}
+use Rattle.archive.proofs.Searches.{opened-are}
+
+pub record Small (r : Reply) : Type 0 where
+  pub server : r .server < 4294967296
+  pub opened : r .opened < 4294967296
+  pub invalidated : r .invalidated < 4294967296
+
+-- a refusal carries zeros there
+reply-small : (rows : List Row) (done : Reply) → (firstOf rows ≡ 0 → Small done) → Small (replyBy rows done)
+unfolding replyBy
+reply-small rows done f = settle-either rows done _ Small f (record { server = omega arith; opened = omega arith; invalidated = omega arith })
+
+on-small : (k n : ℕ) → k < 4294967296 → n < 4294967296 → Small (onServer k n)
+on-small k n l h = record { server = l; opened = omega arith; invalidated = h }
+
+-- a server has at most its entries to invalidate
+marks-few : (t : Table) (m : List ℕ) (id : ℕ) (p : ℕ → Bool) → sound t ≡ true → (n : ℕ) → n ≤ t .count → length (marksOver (t .capacity) (usedOf t) m id p n) ≤ 65536 * n
+unfolding marksOver
+marks-few t m id p s zero l = omega arith
+marks-few t m id p s (suc n) l =
+    let f = sound-facts t s in
+    let on : length (cond (p n) (marksOn (t .capacity) (usedOf t n) m id n) []) ≤ 65536 = byBool (p n)
+    (λ e. rw e (omega (arith, length-marksOn (t .capacity) (usedOf t n) m id n, f .server n l .fits)))
+    (λ e. rw e (omega arith))
+    in
+    rw length-append (omega (arith, marks-few t m id p s n (omega arith)))
+
+module _ (t : Table) where
+  marks-small : (m : List ℕ) (id : ℕ) (p : ℕ → Bool) → sound t ≡ true → length (marksOver (t .capacity) (usedOf t) m id p (t .count)) < 4294967296
+  marks-small m id p s = let f = sound-facts t s in omega (arith, marks-few t m id p s (t .count) (omega arith))
+
+  pub addServer-small : (m : List ℕ) (weight : ℕ) → Small (addServerReply t m weight)
+  unfolding addServerReply
+  addServer-small m weight = reply-small (addServerRows t m weight) _ (λ z. on-small (t .count) 0 (omega (arith, addServer-accepted t m weight z .few)) (omega arith))
+
+  pub reweight-small : (server weight : ℕ) → Small (reweightReply t server weight)
+  unfolding reweightReply
+  reweight-small server weight = reply-small (reweightRows t server weight) _ (λ z.
+      let a = reweight-accepted t server weight z in
+      let f = sound-facts t (a .isSound) in
+      on-small server 0 (omega arith) (omega arith))
+
+  pub write-small : (m : List ℕ) (id value : ℕ) → Small (writeReply t m id value)
+  unfolding writeReply writeMarks
+  write-small m id value = reply-small (writeRows t m id value) _ (λ z.
+      let a = write-accepted t m id value z in
+      on-small (target t id) _ (omega arith) (marks-small m id _ (a .isSound)))
+
+  pub delete-small : (m : List ℕ) (id : ℕ) → Small (deleteReply t m id)
+  unfolding deleteReply deleteMarks deleteRows
+  delete-small m id = reply-small (deleteRows t m id) _ (λ z. on-small 0 _ (omega arith) (marks-small m id _ (not-false _ (passed 0 (not (sound t)) _ z .0))))
+
+  met-small : (m : List ℕ) (n : ℕ) → n < 4294967296 → (o : Option Place) → Small (metReply t m n o)
+  unfolding metReply
+  met-small m n l none = record { server = omega arith; opened = l; invalidated = omega arith }
+  met-small m n l (some p) = byBool (eqb (tagOf (nth m (valueAt (t .capacity) (p .server) (p .entry)))) 1)
+      (λ e. rw e (record { server = omega arith; opened = l; invalidated = omega arith }))
+      (λ e. rw e (record { server = omega arith; opened = l; invalidated = omega arith }))
+
+  pub lookup-small : (m : List ℕ) (id : ℕ) → Small (lookupReply t m id)
+  unfolding lookupReply
+  lookup-small m id = reply-small (lookupRows t m id) _ (λ z.
+      let f = sound-facts t (lookup-accepted t m id z .isSound) in
+      met-small m _ (omega (arith, opened-are t m id .number, countBelow-le (opens t m id) (t .count))) (searchFor t m id .met))

@@ -1,0 +1,212 @@
+-- `archive::search::find` meets its contract. The invariants: the answer is that of what is left to search.
+use Prim.Native.Nat.{ℕ, _+_, _-_, _≤_, _<_}
+use mathlib.Core.Path.{_≡_, refl, sym, _∙_}
+use mathlib.Core.Bool.{false}
+use mathlib.Core.List.{List}
+use mathlib.Core.Logic.{⊎-elim}
+use native.Mathlib.Omega.{arith}
+use borrow.Author.Needs.{needs}
+use Rattle.placement.specs.Below.{nth}
+use Rattle.placement.proofs.Tests.{true-not-false}
+use Rattle.table.specs.declared.Table.{Table}
+use Rattle.table.specs.Sound.{tableOf}
+use Rattle.archive.specs.declared.Found.the-variants.{At}
+use Rattle.archive.specs.Search.{searchFor, foundBy}
+use Rattle.archive.proofs.Finding.{each-inside, serversLeft, entriesLeft, all-left, server-skipped, server-opened, no-server-left, entry-skipped, entry-met, no-entry-left}
+use Rattle.archive.proofs.search.find.Statement.{statement}
+use Rattle.archive.proofs.search.find.Tie as tie
+
+abbrev Inv-loop : tie.InvT-loop
+Inv-loop capacity count used numerators denominators medium id entries met₀ opened j₀ k last met j =
+    (j ≤ last) × (met ≡ false)
+    × ((weights : List ℕ) →
+    let t = tableOf capacity count weights used numerators denominators in
+    foundBy (searchFor t medium id) ≡ entriesLeft t medium id opened k j)
+
+abbrev μ-loop : tie.MeasureT-loop
+μ-loop capacity count used numerators denominators medium id entries met₀ opened j₀ k last met j = j
+
+abbrev Inv-search : tie.InvT-search
+Inv-search capacity count used numerators denominators medium id entries met₀ opened₀ j₀ k₀ met opened j k =
+    (opened + k ≤ count) × (met ≡ false)
+    × ((weights : List ℕ) →
+    let t = tableOf capacity count weights used numerators denominators in
+    foundBy (searchFor t medium id) ≡ serversLeft t medium id opened k)
+
+abbrev μ-search : tie.MeasureT-search
+μ-search capacity count used numerators denominators medium id entries met₀ opened₀ j₀ k₀ met opened j k = k
+
+-- places: the start, the outer loop's head, the test of the server and the inner loop's head
+abbrev S : tie.At-search Inv-loop μ-loop Inv-search μ-search → tie.Start Inv-loop μ-loop Inv-search μ-search
+S q = q .before .before
+
+abbrev Q : tie.After-takes Inv-loop μ-loop Inv-search μ-search → tie.At-search Inv-loop μ-loop Inv-search μ-search
+Q c = c .before .before .before .before
+
+abbrev X : tie.At-loop Inv-loop μ-loop Inv-search μ-search → tie.After-takes Inv-loop μ-loop Inv-search μ-search
+X l = l .before .before .before
+
+abbrev L : tie.After-is-live Inv-loop μ-loop Inv-search μ-search → tie.At-loop Inv-loop μ-loop Inv-search μ-search
+L c = c .before .before
+
+-- the server that the search stands at, and the table with these weights
+abbrev K : tie.At-search Inv-loop μ-loop Inv-search μ-search → ℕ
+K q = q .search .k - 1
+
+abbrev T : tie.At-search Inv-loop μ-loop Inv-search μ-search → List ℕ → Table
+T q ws = let a = S q .args in tableOf (a .capacity) (a .count) ws (a .used .now) (a .numerators .now) (a .denominators .now)
+
+-- the medium and the id
+abbrev M : tie.At-search Inv-loop μ-loop Inv-search μ-search → List ℕ
+M q = S q .args .medium .now
+
+abbrev N : tie.At-search Inv-loop μ-loop Inv-search μ-search → ℕ
+N q = S q .args .id
+
+search-holds : tie.Need-search-holds Inv-loop μ-loop Inv-search μ-search
+search-holds c = (search needs, refl, λ ws. all-left _ _ _)
+
+sub-k : tie.Need-sub-k Inv-loop μ-loop Inv-search μ-search
+sub-k c = search needs
+
+mul-t16 : tie.Need-mul-t16 Inv-loop μ-loop Inv-search μ-search
+mul-t16 c = search needs
+
+element-copy-out-t19 : tie.Need-element-copy-out-t19 Inv-loop μ-loop Inv-search μ-search
+element-copy-out-t19 c = search needs
+
+mul-t20 : tie.Need-mul-t20 Inv-loop μ-loop Inv-search μ-search
+mul-t20 c = search needs
+
+element-copy-out-t23 : tie.Need-element-copy-out-t23 Inv-loop μ-loop Inv-search μ-search
+element-copy-out-t23 c = search needs
+
+takes-requires : tie.Need-takes-requires Inv-loop μ-loop Inv-search μ-search
+takes-requires c κs = search needs
+
+add-opened : tie.Need-add-opened Inv-loop μ-loop Inv-search μ-search
+add-opened c = search needs
+
+mul-last : tie.Need-mul-last Inv-loop μ-loop Inv-search μ-search
+mul-last c = search needs
+
+element-copy-out-last : tie.Need-element-copy-out-last Inv-loop μ-loop Inv-search μ-search
+element-copy-out-last c = search needs
+
+-- that server has no more entries used than a server has
+used-here : (q : tie.At-search Inv-loop μ-loop Inv-search μ-search) → 0 < q .search .k → nth (S q .args .used .now) (K q) ≤ S q .args .capacity
+used-here q l = S q .pre .fits (K q) (omega arith)
+
+cast-last : tie.Need-cast-last Inv-loop μ-loop Inv-search μ-search
+cast-last c = let q = Q (c .before .before) in omega (arith, used-here q (search needs))
+
+loop-holds : tie.Need-loop-holds Inv-loop μ-loop Inv-search μ-search
+loop-holds c =
+    let x = c .before .before in
+    let q = Q x in (
+      search needs,
+      q .search .inv .1,
+      λ ws. q .search .inv .2 ws ∙ server-opened (T q ws) (M q) (N q) (q .search .opened) (q .search .k) (search needs) (x .takes .ensures) (c .before .if1 .taken),
+    )
+
+search-less : tie.Need-search-less Inv-loop μ-loop Inv-search μ-search
+search-less c = search needs
+
+search-again : tie.Need-search-again Inv-loop μ-loop Inv-search μ-search
+search-again c =
+    let l = c .before in
+    let q = Q (X l) in
+    let e : l .loop .j ≡ 0 = omega arith in (
+      search needs,
+      l .loop .inv .1,
+      λ ws. (rw e at (l .loop .inv .2 ws)) ∙ no-entry-left (T q ws) (M q) (N q) (q .search .opened + 1) (K q),
+    )
+
+sub-j : tie.Need-sub-j Inv-loop μ-loop Inv-search μ-search
+sub-j c = search needs
+
+is-live-requires : tie.Need-is-live-requires Inv-loop μ-loop Inv-search μ-search
+is-live-requires c κs =
+    let q = Q (X (c .before)) in
+    let a = S q .args in
+    let u = used-here q (search needs) in
+    (each-inside (a .capacity) (a .count) (K q) (nth (a .used .now)) (M q) (S q .pre) (search needs), omega arith)
+
+loop-less : tie.Need-loop-less Inv-loop μ-loop Inv-search μ-search
+loop-less c = search needs
+
+loop-again : tie.Need-loop-again Inv-loop μ-loop Inv-search μ-search
+loop-again c =
+    let l = L (c .before) in
+    let q = Q (X l) in (
+      search needs,
+      l .loop .inv .1,
+      λ ws. l .loop .inv .2 ws ∙ entry-skipped (T q ws) (M q) (N q) (q .search .opened + 1) (K q) (l .loop .j) (search needs) (c .before .is-live .ensures) (c .if2 .left),
+    )
+
+search-less-2 : tie.Need-search-less-2 Inv-loop μ-loop Inv-search μ-search
+search-less-2 c = search needs
+
+search-again-2 : tie.Need-search-again-2 Inv-loop μ-loop Inv-search μ-search
+search-again-2 c =
+    let x = c .before in
+    let q = Q x in (
+      search needs,
+      q .search .inv .1,
+      λ ws. q .search .inv .2 ws ∙ server-skipped (T q ws) (M q) (N q) (q .search .opened) (q .search .k) (search needs) (x .takes .ensures) (c .if1 .left),
+    )
+
+-- left from inside: the entry is met
+returns : tie.Need-returns Inv-loop μ-loop Inv-search μ-search
+returns c ws =
+    let q = c .before .before in
+    ⊎-elim
+    (λ w. absurd (true-not-false (sym (w .1) ∙ c .if3 .taken) (q .search .inv .1)))
+    (λ w.
+    let l = w .6 in
+    let e : foundBy (searchFor (T q ws) (M q) (N q)) ≡ At (K q) (l .j - 1) (q .search .opened + 1) =
+    l .inv .2 ws ∙ entry-met (T q ws) (M q) (N q) (q .search .opened + 1) (K q) (l .j) (w .7 .taken) (w .8 .ensures) (w .9 .taken) in
+    rw (w .13, w .12, w .11) (sym e))
+    (c .before .search-test .came)
+
+-- left by its test: no server is left
+returns-2 : tie.Need-returns-2 Inv-loop μ-loop Inv-search μ-search
+returns-2 c ws =
+    let q = c .before .before in
+    ⊎-elim
+    (λ w.
+    let e : q .search .k ≡ 0 = omega arith in
+    rw (w .2) (sym ((rw e at (q .search .inv .2 ws)) ∙ no-server-left (T q ws) (M q) (N q) (q .search .opened))))
+    (λ w. absurd (true-not-false (w .10) (c .if3 .left)))
+    (c .before .search-test .came)
+
+pub find-spec : {M : Type 1} → statement M
+find-spec =
+    tie.close
+    (tie.spec
+    Inv-loop
+    μ-loop
+    Inv-search
+    μ-search
+    search-holds
+    sub-k
+    mul-t16
+    element-copy-out-t19
+    mul-t20
+    element-copy-out-t23
+    takes-requires
+    add-opened
+    mul-last
+    element-copy-out-last
+    cast-last
+    loop-holds
+    search-less
+    search-again
+    sub-j
+    is-live-requires
+    loop-less
+    loop-again
+    search-less-2
+    search-again-2
+    returns
+    returns-2)

@@ -1,0 +1,170 @@
+-- `archive::lookup` meets its contract: what the tests say, and what the search met.
+use Prim.Native.Nat.{ℕ, _+_, _<_}
+use mathlib.Core.Path.{_≡_, sym, ap, _∙_}
+use mathlib.Core.Bool.{Bool, true, false, cond}
+use mathlib.Core.List.{List}
+use native.Mathlib.Omega.{arith}
+use lib.ListN.{length}
+use lib.Dec.{eqb}
+use borrow.Author.Needs.{needs}
+use borrow.Author.Tests.{eq-eqb, ne-eqb}
+use Rattle.placement.specs.Below.{nth}
+use Rattle.medium.specs.Word.{tagOf, contentOf}
+use Rattle.medium.specs.Entry.{entryAt, valueAt}
+use Rattle.medium.proofs.Places.{entry-in}
+use Rattle.medium.proofs.Entries.{live-used}
+use Rattle.table.specs.declared.Table.{Table}
+use Rattle.table.specs.Sound.{usedOf}
+use Rattle.archive.specs.Refusal.{firstOf}
+use Rattle.archive.specs.Reply.{refused, found, numberOf, checkNumber, replyOfLookup}
+use Rattle.archive.specs.Search.{searchFor}
+use Rattle.archive.specs.Calls.{lookupRows, lookupReply}
+use Rattle.archive.specs.Opened.{Met}
+use Rattle.archive.proofs.Answers.{reply-refused}
+use Rattle.archive.proofs.Accepted.{Ready, lookup-accepted}
+use Rattle.archive.proofs.Searches.{met-some}
+use Rattle.archive.proofs.Done.{found-some, looked-none, looked-some}
+use Rattle.archive.proofs.search.lookup.Statement.{statement}
+use Rattle.archive.proofs.search.lookup.Tie as tie
+
+ready-requires : tie.Need-ready-requires
+ready-requires c κs = search needs
+
+enum-known-check : tie.Need-enum-known-check
+enum-known-check c = search needs
+
+-- the call's arguments
+abbrev S : tie.After-ready → tie.Start
+S c = c .before .before .before .before .before .before .before
+
+abbrev T : tie.After-ready → Table
+T c = S c .args .t1
+
+abbrev M : tie.After-ready → List ℕ
+M c = S c .args .medium .now
+
+refused-here : (c : tie.After-check) → numberOf (c .check .given .0 .0) ≡ firstOf (lookupRows (T (c .before .before)) (M (c .before .before)) (S (c .before .before) .args .id))
+unfolding checkNumber
+refused-here c = sym (ap checkNumber (c .check .given .1)) ∙ c .before .before .ready .ensures
+
+accepted-here : (c : tie.After-enum-told) → firstOf (lookupRows (T (c .before .before)) (M (c .before .before)) (S (c .before .before) .args .id)) ≡ 0
+unfolding checkNumber
+accepted-here c = sym (c .before .before .ready .ensures) ∙ ap checkNumber (c .enum-told .given .1)
+
+returns : tie.Need-returns
+unfolding replyOfLookup lookupReply
+returns c = let r = c .before .before .before in reply-refused (lookupRows (T r) (M r) (S r .args .id)) _ (refused-here (c .before)) _
+
+enum-told : tie.Need-enum-told
+enum-told c = search needs
+
+ready-here : (c : tie.After-enum-told) → Ready (T (c .before .before)) (M (c .before .before))
+ready-here c = lookup-accepted _ _ _ (accepted-here c)
+
+find-requires : tie.Need-find-requires
+find-requires c κs = ready-here (c .before .before .before .before) .inside
+
+-- where the search's answer is known
+abbrev E : tie.After-find → tie.After-enum-told
+E c = c .before .before .before .before .before
+
+abbrev R : tie.After-find → tie.After-ready
+R c = E c .before .before
+
+enum-known-found : tie.Need-enum-known-found
+enum-known-found c = search needs
+
+enum-known-found-2 : tie.Need-enum-known-found-2
+enum-known-found-2 c = search needs
+
+returns-2 : tie.Need-returns-2
+unfolding replyOfLookup numberOf
+returns-2 c =
+    let f = c .before .before .before in
+    let r = R f in
+    looked-none (T r) (M r) (S r .args .id) (accepted-here (E f)) _ (f .find .ensures (T r .weights)) (c .before .found .given .1)
+
+-- the entry met: its server is there, and it is used
+met-here : (c : tie.After-found2) → Met (T (R (c .before .before))) (M (R (c .before .before))) (S (R (c .before .before)) .args .id) (record { server = c .found2 .given .0 .0; entry = c .found2 .given .0 .1 .0 })
+met-here c =
+    let f = c .before .before in
+    let r = R f in
+    met-some (T r) (M r) (S r .args .id) _ (found-some (searchFor (T r) (M r) (S r .args .id)) (f .find .ensures (T r .weights)) _ _ _ (c .found2 .given .1) .0)
+
+room : (c : tie.After-found2) → entryAt (T (R (c .before .before)) .capacity) (c .found2 .given .0 .0) (c .found2 .given .0 .1 .0) + 1 < length (M (R (c .before .before)))
+room c =
+    let f = c .before .before in
+    let i = ready-here (E f) .inside in
+    let g = met-here c in
+    let t = T (R f) in
+    let k = c .found2 .given .0 .0 in
+    let j = c .found2 .given .0 .1 .0 in
+    let u = live-used (t .capacity) (usedOf t k) (M (R f)) (S (R f) .args .id) k j (g .isLive) in
+    omega (arith, i .long, entry-in (t .capacity) (t .count) k j 1 (g .below) (omega (arith, i .fits k (g .below))) (omega arith))
+
+cast-entry-at : tie.Need-cast-entry-at
+cast-entry-at c = search needs
+
+entry-at-requires : tie.Need-entry-at-requires
+entry-at-requires c κs =
+    let d = c .before in
+    let f = d .before .before in
+    let i = ready-here (E f) .inside in
+    let g = met-here d in
+    let t = T (R f) in
+    let k = d .found2 .given .0 .0 in
+    let j = d .found2 .given .0 .1 .0 in
+    let u = live-used (t .capacity) (usedOf t k) (M (R f)) (S (R f) .args .id) k j (g .isLive) in
+    omega (arith, i .small, i .few, g .below, i .fits k (g .below))
+
+add-word : tie.Need-add-word
+add-word c = let l = room (c .before .before) in omega (arith, c .entry-at .ensures)
+
+mul-word : tie.Need-mul-word
+mul-word c = let l = room (c .before .before) in search needs
+
+shared-slice-read-word : tie.Need-shared-slice-read-word
+shared-slice-read-word c = omega (arith, room (c .before .before .before), c .before .entry-at .ensures)
+
+-- the word read is the value word of the entry met
+word-here : (c : tie.After-shared-slice-known2) → nth (M (R (c .before .before .before .before .before))) (c .before .entry-at .result + 1) ≡ nth (M (R (c .before .before .before .before .before))) (valueAt (T (R (c .before .before .before .before .before)) .capacity) (c .before .before .before .found2 .given .0 .0) (c .before .before .before .found2 .given .0 .1 .0))
+word-here c = ap (λ (a : ℕ). nth (M (R (c .before .before .before .before .before))) (a + 1)) (c .before .entry-at .ensures)
+
+told : (c : tie.After-shared-slice-known2) (b : Bool) → eqb (tagOf (nth (M (R (c .before .before .before .before .before))) (c .before .entry-at .result + 1))) 1 ≡ b
+    → cond b (found (contentOf (nth (M (R (c .before .before .before .before .before))) (c .before .entry-at .result + 1))) (c .before .before .before .found2 .given .0 .1 .1 .0)) (refused 10 (c .before .before .before .found2 .given .0 .1 .1 .0))
+    ≡ lookupReply (T (R (c .before .before .before .before .before))) (M (R (c .before .before .before .before .before))) (S (R (c .before .before .before .before .before)) .args .id)
+told c b e =
+    let d = c .before .before .before in
+    let f = d .before .before in
+    let r = R f in
+    let n = d .found2 .given .0 .1 .1 .0 in
+    ap (λ (w : ℕ). cond b (found (contentOf w) n) (refused 10 n)) (word-here c)
+    ∙ looked-some (T r) (M r) (S r .args .id) (accepted-here (E f)) _ _ n b (f .find .ensures (T r .weights)) (d .found2 .given .1) (ap (λ (w : ℕ). eqb (tagOf w) 1) (sym (word-here c)) ∙ e)
+
+returns-3 : tie.Need-returns-3
+unfolding replyOfLookup
+returns-3 c = told (c .before) true (eq-eqb _ _ (c .if1 .taken))
+
+returns-4 : tie.Need-returns-4
+unfolding replyOfLookup numberOf
+returns-4 c = told (c .before) false (ne-eqb _ _ (c .if1 .left))
+
+pub lookup-spec : {M : Type 1} → statement M
+lookup-spec =
+    tie.close
+    (tie.spec
+    ready-requires
+    enum-known-check
+    returns
+    enum-told
+    find-requires
+    enum-known-found
+    enum-known-found-2
+    cast-entry-at
+    entry-at-requires
+    add-word
+    mul-word
+    shared-slice-read-word
+    returns-2
+    returns-3
+    returns-4)

@@ -1,0 +1,5 @@
+pub mod Refusal
+pub mod Reply
+pub mod Search
+pub mod Calls
+pub mod Opened

@@ -1,0 +1,102 @@
+// Lookup: a search over the servers from the highest down, and on each over its entries downward.
+ghost use mathlib.Core.Path.{_≡_};
+ghost use mathlib.Core.List.{List};
+ghost use Prim.Native.Nat.{ℕ};
+ghost use Rattle.placement.specs.Below.{nth};
+ghost use Rattle.medium.specs.Entry.{AllInside};
+ghost use Rattle.table.specs.Sound.{tableOf};
+ghost use Rattle.archive.specs.Search.{searchFor, foundBy};
+ghost use Rattle.archive.specs.Reply.{replyOfLookup};
+ghost use Rattle.archive.specs.Calls.{lookupReply};
+use crate::Check;
+use crate::Found;
+use crate::LookupAnswer;
+use crate::Refusal;
+use crate::checks;
+use placement::Fraction;
+use table::Table;
+
+// The entry that a lookup meets, and how many servers it opens. The weights have no part in it.
+pub fn find<'a>(
+    capacity: u32,
+    count: usize,
+    used: &'a [u32; 256],
+    numerators: &'a [u32; 256],
+    denominators: &'a [u32; 256],
+    medium: &'a [u32],
+    id: u32,
+) -> Found
+    requires { ⌜ AllInside capacity count (nth (now used)) (now medium) ⌝ }
+    ensures { λ r. ⌜ ((weights : List ℕ) → r ≡ foundBy (searchFor (tableOf capacity count weights (now (used .entry)) (now (numerators .entry)) (now (denominators .entry))) (now (medium .entry)) id)) ⌝ }
+{
+    let entries = capacity as usize;
+    let mut met = false;
+    let mut opened: usize = 0;
+    let mut j: usize = 0;
+    let mut k = count;
+    'search: while 0 < k {
+        k -= 1;
+        let read = Fraction {
+            num: numerators[k],
+            den: denominators[k],
+        };
+        if placement::takes(read, id, k) {
+            opened += 1;
+            let last = used[k] as usize;
+            j = last;
+            while 0 < j {
+                j -= 1;
+                if medium::is_live(medium, entries, last, id, k, j) {
+                    met = true;
+                    break 'search;
+                }
+            }
+        }
+    }
+    if met {
+        Found::At(k, j, opened)
+    } else {
+        Found::Nowhere(opened)
+    }
+}
+
+// The value of an id, or why there is none, and how many servers were opened.
+pub fn lookup(table: Table, medium: &[u32], id: u32) -> LookupAnswer
+    ensures { λ r. ⌜ replyOfLookup r ≡ lookupReply table (now (medium .entry)) id ⌝ }
+{
+    let capacity = table.capacity;
+    let count = table.count;
+    let check = checks::ready(
+        capacity,
+        count,
+        &table.weights,
+        &table.used,
+        &table.numerators,
+        &table.denominators,
+        medium,
+        id,
+    );
+    if let Check::Refused(refusal) = check {
+        return LookupAnswer::Refused(refusal, 0);
+    }
+    let found = find(
+        capacity,
+        count,
+        &table.used,
+        &table.numerators,
+        &table.denominators,
+        medium,
+        id,
+    );
+    match found {
+        Found::Nowhere(opened) => LookupAnswer::Refused(Refusal::NotFound, opened),
+        Found::At(server, entry, opened) => {
+            let word = medium[medium::entry_at(capacity as usize, server, entry) + 1];
+            if word / medium::CONTENT_RANGE == 1 {
+                LookupAnswer::Found(word % medium::CONTENT_RANGE, opened)
+            } else {
+                LookupAnswer::Refused(Refusal::Corrupt, opened)
+            }
+        }
+    }
+}
