@@ -1,0 +1,69 @@
+-- A delete on both sides.
+-- Assumes nothing.
+use Prim.Native.Nat.{ℕ, _<_}
+use mathlib.Core.Path.{_≡_, refl, ap, _∙_}
+use mathlib.Core.List.{List}
+use mathlib.Core.Option.{Option, none, some}
+use lib.Dec.{leb, eqb}
+use borrow.Author.Tests.{leb-false}
+use Rattle.placement.specs.Rule.{readable}
+use Rattle.placement.proofs.Tests.{byBool}
+use Rattle.medium.specs.Word.{deleted as deletedMark}
+use Rattle.medium.specs.Burn.{burnAll, invalidations}
+use Rattle.medium.proofs.Burns.{length-burnAll}
+use Rattle.table.specs.declared.Table.{Table}
+use Rattle.archive.specs.Refusal.{firstOf}
+use Rattle.archive.specs.Search.{reads, searchFor}
+use Rattle.archive.specs.Calls.{isMet, deleteRows, deleteMarks, deleteReply, deleteMedium}
+use Rattle.history.specs.Call.{delete, compared}
+use Rattle.history.specs.Ledger.{deleted, Ledger, Standing, usedBy, standing, isStanding, range, withEvent, deleteRowsL, enter}
+use Rattle.archive.proofs.Refusals.{settle-yes, settle-no}
+use Rattle.history.proofs.Lists.{in-range}
+use Rattle.history.proofs.Events.{placeOf}
+use Rattle.history.proofs.Deleting.{afterDelete, delete-holds}
+use Rattle.history.proofs.Agree.{Agree, Step, settled, same-short, same-reads, same-marks, same-met}
+
+module _ {t : Table} {m : List ℕ} {L : Ledger} (A : Agree t m L) (id : ℕ) where
+  same-found : id < range → isMet (searchFor t m id .met) ≡ isStanding (standing (L .events) id)
+  unfolding isMet isStanding placeOf
+  same-found n = ap isMet (same-met A id n) ∙ go (standing (L .events) id)
+    where
+      go : (o : Option Standing) → isMet (placeOf o) ≡ isStanding o
+      go none = refl
+      go (some x) = refl
+
+  pub same-rows : firstOf (deleteRows t m id) ≡ firstOf (deleteRowsL L id)
+  unfolding firstOf deleteRows deleteRowsL
+  same-rows = rw (A .isSound, ap (λ (c : ℕ). eqb c 0) (A .count), same-short A) (byBool (leb range id)
+      (λ d. rw d)
+      (λ d. rw (d, same-found (leb-false range id d))))
+
+  pub accepted-id : firstOf (deleteRows t m id) ≡ 0 → id < range
+  unfolding deleteRows
+  accepted-id z = in-range _ id _ z
+
+  -- the medium that an accepted delete leaves
+  pub delete-medium : burnAll m (invalidations deletedMark (deleteMarks t m id)) ≡ afterDelete (t .capacity) (t .count) (L .greatest) (L .events) m id
+  unfolding deleteMarks
+  delete-medium = ap (λ (marks : List ℕ). burnAll m (invalidations deletedMark marks)) (same-marks A id (reads t id) (readable (L .greatest) id) (same-reads A id))
+
+  agrees : id < range → Agree t (burnAll m (invalidations deletedMark (deleteMarks t m id))) (withEvent L (deleted id))
+  unfolding withEvent usedBy
+  agrees n = record {
+    isSound = A .isSound;
+    arrays = A .arrays;
+    capacity = A .capacity;
+    count = A .count;
+    weights = A .weights;
+    used = A .used;
+    readPs = A .readPs;
+    words = length-burnAll m (invalidations deletedMark (deleteMarks t m id)) ∙ A .words;
+    holds = rw delete-medium (delete-holds (A .holds) id n);
+  }
+
+  pub delete-step : Step (deleteReply t m id) t (deleteMedium t m id) (enter L (delete id))
+  unfolding deleteReply deleteMedium enter compared
+  delete-step = settled L (deleteRows t m id) (deleteRowsL L id) same-rows _ _ t (deleteMedium t m id)
+      (λ z. rw (settle-yes (deleteRows t m id) (burnAll m (invalidations deletedMark (deleteMarks t m id))) m z)
+      (record { alike = refl; agrees = agrees (accepted-id z) }))
+      (λ f. rw (settle-no (deleteRows t m id) (burnAll m (invalidations deletedMark (deleteMarks t m id))) m f) A)

@@ -1,0 +1,21 @@
+pub mod Lists
+pub mod Tops
+pub mod Events
+pub mod Entering
+pub mod Holds
+pub mod Marking
+pub mod Deleting
+pub mod Writing
+pub mod Agree
+pub mod LookupStep
+pub mod ReweightStep
+pub mod AddServerStep
+pub mod DeleteStep
+pub mod WriteStep
+pub mod Run
+pub mod Never
+pub mod Counting
+pub mod Unaltered
+pub mod Theorem
+pub mod LiveRule
+mod Replaying

@@ -1,0 +1,127 @@
+-- The live rule: an accepted write's entry is live exactly when no later event takes it, told from the calls alone.
+-- Assumes nothing.
+use Prim.Native.Nat.{ℕ, _<_}
+use mathlib.Core.Path.{_≡_, sym, _∙_, subst}
+use mathlib.Core.Bool.{not, _&&_, _||_, and-comm}
+use mathlib.Core.List.{List, [], _∷_}
+use native.Mathlib.Omega.{arith}
+use lib.Dec.{leb, ltb, eqb}
+use borrow.Author.Tests.{lt-ltb, le-ltb, leb-true, leb-false}
+use Rattle.placement.specs.declared.Fraction.{Fraction}
+use Rattle.placement.proofs.Tests.{byBool}
+use Rattle.medium.specs.Word.{deleted as deletedMark}
+use Rattle.medium.specs.Entry.{bears, live}
+use Rattle.medium.specs.Burn.{burnAll, invalidations}
+use Rattle.table.specs.declared.Table.{Table}
+use Rattle.table.specs.Sound.{usedOf}
+use Rattle.archive.specs.Refusal.{Row, firstOf, settle}
+use Rattle.archive.specs.Calls.{startRows, target, writeRows, writeBurns, writeMedium, deleteRows, deleteMarks, deleteMedium}
+use Rattle.history.specs.Call.{Call, addServer, reweight, write, delete, lookup}
+use Rattle.history.specs.Machine.{State, next, after, begin}
+use Rattle.history.specs.Ledger.{Event, wrote, deleted, Ledger, Entered, enterBy, opening, usedBy, range, addServerRowsL, withServerL, reweightRowsL, withWeightL, withEvent, writeRowsL, deleteRowsL, lookupRowsL, enter, ledgerAfter}
+use Rattle.history.specs.Demand3.{stateThen, ledgerThen}
+use Rattle.history.specs.LiveRule.{stays, LiveRule}
+use Rattle.archive.proofs.Refusals.{settle-yes, settle-no}
+use Rattle.history.proofs.Events.{EachWrite, each-none, each-wrote, each-deleted, used-write}
+use Rattle.history.proofs.Entering.{entered}
+use Rattle.history.proofs.Holds.{Holds, write-there}
+use Rattle.history.proofs.Deleting.{afterDelete, borne}
+use Rattle.history.proofs.Writing.{afterWrite, Accepted, new-borne, old-borne}
+use Rattle.history.proofs.Agree.{Agree, same-target}
+use Rattle.history.proofs.WriteStep.{same-rows as same-write, accepted, write-medium}
+use Rattle.history.proofs.DeleteStep.{same-rows as same-delete, accepted-id, delete-medium}
+use Rattle.history.proofs.Run.{Agrees, begin-agrees, step, run}
+
+-- each write's entry bears its id exactly when it stays
+abbrev Ruled : ℕ → List Event → List ℕ → Type 0
+Ruled capacity events m = EachWrite events (λ newer older id value server. bears capacity m id server (usedBy older server) ≡ stays id server newer)
+
+-- one event more
+not-taken : (id a server k : ℕ) → not (eqb id a && leb server k) ≡ not (eqb id a) || ltb k server
+not-taken id a server k = byBool (eqb id a)
+    (λ d. rw d (byBool (leb server k)
+    (λ c. rw (c, le-ltb k server (leb-true server k c)))
+    (λ c. rw (c, lt-ltb k server (leb-false server k c)))))
+    (λ d. rw d)
+
+module _ {capacity count : ℕ} {greatest : ℕ → Fraction} {events : List Event} {m : List ℕ} (H : Holds capacity count greatest events m) (R : Ruled capacity events m) where
+  write-ruled : {id value server : ℕ} → Accepted capacity count greatest events id value server
+      → Ruled capacity (wrote id value server ∷ events) (afterWrite capacity count greatest events m id value server)
+  unfolding stays
+  write-ruled {id} {value} {server} W = each-wrote _ (new-borne H W) (λ newer older a v k e.
+      old-borne H W a k (usedBy older k) (write-there H newer older a v k e) (used-write events newer older a v k e)
+      ∙ rw (R newer older a v k e, not-taken id a server k) (and-comm (stays a k newer) (not (eqb id a) || ltb k server)))
+
+  delete-ruled : (id : ℕ) → id < range → Ruled capacity (deleted id ∷ events) (afterDelete capacity count greatest events m id)
+  unfolding stays
+  delete-ruled id small = each-deleted _ (λ newer older a v k e.
+      borne H id small a k (usedBy older k) (write-there H newer older a v k e) (omega (arith, H .fits k, used-write events newer older a v k e))
+      ∙ rw (R newer older a v k e) (and-comm (stays a k newer) (not (eqb id a))))
+
+-- the same of a ledger
+abbrev Rules : Ledger → List ℕ → Type 0
+Rules L m = Ruled (L .capacity) (L .events) m
+
+-- a call that may burn, and one that leaves the events and the medium
+module _ (L : Ledger) (m : List ℕ) (R : Rules L m) where
+  settled-rules : (rows rowsL : List Row) → firstOf rows ≡ firstOf rowsL → (done : Entered) (N : List ℕ)
+      → (firstOf rows ≡ 0 → Rules (done .ledger) N)
+      → Rules (enterBy L rowsL done .ledger) (settle rows N m)
+  settled-rules rows rowsL same done N accepts = entered (λ e. Rules (e .ledger) (settle rows N m)) L rowsL done
+      (λ z. rw (settle-yes rows N m (same ∙ z)) (accepts (same ∙ z)))
+      (λ f. rw (settle-no rows N m (λ z. f (sym same ∙ z))) R)
+
+  same-rules : (rows : List Row) (done : Entered) → Rules (done .ledger) m → Rules (enterBy L rows done .ledger) m
+  same-rules rows done Q = entered (λ e. Rules (e .ledger) m) L rows done (λ z. Q) (λ f. R)
+
+module _ {t : Table} {m : List ℕ} {L : Ledger} (A : Agree t m L) (R : Rules L m) where
+  table-ruled : Ruled (t .capacity) (L .events) m
+  table-ruled = subst (λ (c : ℕ). Ruled c (L .events) m) (sym (A .capacity)) R
+
+  write-rules : (id value : ℕ) → Rules (enter L (write id value) .ledger) (writeMedium t m id value)
+  unfolding enter withEvent writeMedium
+  write-rules id value = settled-rules L m R (writeRows t m id value) (writeRowsL L id value) (same-write A id value) _ (burnAll m (writeBurns t m id value))
+      (λ z.
+      let W = accepted A id value z in
+      let server = target t id in
+      rw (write-medium A id value (W .there), ← (same-target A id))
+      (subst (λ (c : ℕ). Ruled c (wrote id value server ∷ L .events) (afterWrite (t .capacity) (t .count) (L .greatest) (L .events) m id value server)) (A .capacity)
+      (write-ruled (A .holds) table-ruled W)))
+
+  delete-rules : (id : ℕ) → Rules (enter L (delete id) .ledger) (deleteMedium t m id)
+  unfolding enter withEvent deleteMedium
+  delete-rules id = settled-rules L m R (deleteRows t m id) (deleteRowsL L id) (same-delete A id) _ (burnAll m (invalidations deletedMark (deleteMarks t m id)))
+      (λ z. rw (delete-medium A id)
+      (subst (λ (c : ℕ). Ruled c (deleted id ∷ L .events) (afterDelete (t .capacity) (t .count) (L .greatest) (L .events) m id)) (A .capacity)
+      (delete-ruled (A .holds) table-ruled id (accepted-id A id z))))
+
+next-rules : (S : State) (L : Ledger) → Agrees S L → Rules L (S .medium) → (c : Call) → Rules (enter L c .ledger) (next S c .medium)
+unfolding enter next withServerL withWeightL
+next-rules S L A R (addServer weight) = same-rules L (S .medium) R (addServerRowsL L weight) _ R
+next-rules S L A R (reweight server weight) = same-rules L (S .medium) R (reweightRowsL L server weight) _ R
+next-rules S L A R (write id value) = write-rules A R id value
+next-rules S L A R (delete id) = delete-rules A R id
+next-rules S L A R (lookup id) = same-rules L (S .medium) R (lookupRowsL L id) _ R
+
+run-rules : (calls : List Call) (S : State) (L : Ledger) → Agrees S L → Rules L (S .medium) → Rules (ledgerAfter L calls) (after S calls .medium)
+unfolding after ledgerAfter
+run-rules [] S L A R = R
+run-rules (c ∷ calls) S L A R = run-rules calls (next S c) (enter L c .ledger) (step S L A c .agrees) (next-rules S L A R c)
+
+begin-rules : (capacity n : ℕ) → Rules (opening capacity n) (begin capacity n .medium)
+unfolding opening
+begin-rules capacity n = each-none _
+
+pub live-rule : (capacity n : ℕ) → firstOf (startRows capacity) ≡ 0 → (calls : List Call) → LiveRule capacity n calls
+unfolding live
+live-rule capacity n z calls =
+    let S = stateThen capacity n calls in
+    let L = ledgerThen capacity n calls in
+    let B = begin-agrees capacity n z in
+    let A : Agrees (stateThen capacity n calls) (ledgerThen capacity n calls) = run calls (begin capacity n) (opening capacity n) B .agrees in
+    record {
+      rule = λ newer older id value server e.
+          let there = write-there (A .holds) newer older id value server e in
+          rw (lt-ltb (usedBy older server) (usedOf (S .table) server) (omega (arith, A .used server there, used-write (L .events) newer older id value server e)))
+          (table-ruled A (run-rules calls (begin capacity n) (opening capacity n) B (begin-rules capacity n)) newer older id value server e);
+    }

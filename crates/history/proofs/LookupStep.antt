@@ -1,0 +1,85 @@
+-- A lookup on both sides.
+-- Assumes nothing.
+use Prim.Native.Nat.{ℕ, _<_}
+use mathlib.Core.Path.{_≡_, refl, ap, ap₂, _∙_}
+use mathlib.Core.Bool.{Bool, _&&_}
+use mathlib.Core.List.{List}
+use mathlib.Core.Option.{Option, none, some}
+use native.Mathlib.Omega.{arith}
+use lib.ListN.{length}
+use lib.Dec.{leb, eqb}
+use borrow.Author.Tests.{lt-leb, le-ltb, ne-eqb}
+use Rattle.placement.specs.Below.{countBelow}
+use Rattle.placement.specs.Rule.{readable}
+use Rattle.placement.proofs.Below.{countBelow-cong}
+use Rattle.medium.specs.Word.{tagOf, contentOf, valueWord}
+use Rattle.medium.specs.Entry.{serverAt}
+use Rattle.table.specs.declared.Table.{Table}
+use Rattle.archive.specs.Refusal.{firstOf}
+use Rattle.archive.specs.Reply.{refused, replyBy}
+use Rattle.archive.specs.Search.{Place, reads, searchFor}
+use Rattle.archive.specs.Calls.{short, lookupRows, metReply, lookupReply}
+use Rattle.archive.specs.Opened.{lowest, opens}
+use Rattle.history.specs.Call.{lookup, compared}
+use Rattle.history.specs.Ledger.{Ledger, Standing, standing, range, lookupRowsL, openedFrom, standingReply, enter}
+use Rattle.archive.proofs.Searches.{opened-are}
+use Rattle.archive.proofs.Refusals.{settle-yes}
+use Rattle.history.proofs.Lists.{in-range}
+use Rattle.history.proofs.Events.{placeOf, stands-came}
+use Rattle.history.proofs.Holds.{Written}
+use Rattle.history.proofs.Agree.{Agree, Step, settled, same-short, same-reads, same-met}
+
+module _ {t : Table} {m : List ℕ} {L : Ledger} (A : Agree t m L) (id : ℕ) where
+  same-rows : firstOf (lookupRows t m id) ≡ firstOf (lookupRowsL L id)
+  unfolding firstOf lookupRows lookupRowsL
+  same-rows = rw (A .isSound, ap (λ (c : ℕ). eqb c 0) (A .count), same-short A)
+
+  -- the servers opened
+  same-opened : (from : ℕ) → countBelow (λ k. leb from k && reads t id k) (t .count) ≡ openedFrom L id from
+  unfolding openedFrom
+  same-opened from =
+      countBelow-cong (λ k. leb from k && reads t id k) (λ k. leb from k && readable (L .greatest) id k) (t .count)
+      (λ k l. ap (λ (b : Bool). leb from k && b) (same-reads A id k l))
+      ∙ ap (countBelow (λ k. leb from k && readable (L .greatest) id k)) (A .count)
+
+  opened-number : length (searchFor t m id .opened) ≡ openedFrom L id (lowest (searchFor t m id .met))
+  unfolding opens
+  opened-number = opened-are t m id .number ∙ same-opened (lowest (searchFor t m id .met))
+
+  -- the words of the write that stands
+  pub stands-written : (x : Standing) → standing (L .events) id ≡ some x → Written (t .capacity) m id (x .value) (x .server) (x .entry)
+  stands-written x e =
+      let c = stands-came (L .events) id x e in
+      rw (c .entryIs) (A .holds .stands (c .last .newer) (c .last .older) id (x .value) (x .server) (c .last .split))
+
+  same-reply : id < range → compared (metReply t m (length (searchFor t m id .opened)) (searchFor t m id .met)) ≡ standingReply L id (standing (L .events) id)
+  unfolding compared metReply standingReply placeOf lowest
+  same-reply n =
+      ap₂ (λ (o : ℕ) (p : Option Place). compared (metReply t m o p)) (opened-number ∙ ap (λ (p : Option Place). openedFrom L id (lowest p)) (same-met A id n)) (same-met A id n)
+      ∙ go (standing (L .events) id) refl
+    where
+      go : (o : Option Standing) → standing (L .events) id ≡ o → compared (metReply t m (openedFrom L id (lowest (placeOf o))) (placeOf o)) ≡ standingReply L id o
+      go none e = refl
+      go (some x) e =
+          let w = stands-written x e in
+          let tag : tagOf (valueWord (x .value)) ≡ 1 = omega (arith, w .valueSmall) in
+          let content : contentOf (valueWord (x .value)) ≡ x .value = omega (arith, w .valueSmall) in
+          rw (w .valueThere, tag, content)
+
+  pub lookup-step : Step (lookupReply t m id) t m (enter L (lookup id))
+  unfolding lookupReply enter lookupRows
+  lookup-step = settled L (lookupRows t m id) (lookupRowsL L id) same-rows _ _ t m
+      (λ z. record { alike = same-reply (in-range _ id _ z); agrees = A })
+      (λ f. A)
+
+  -- a lookup of an id in range, once a server is there
+  not-refused : id < range → 0 < t .count → firstOf (lookupRows t m id) ≡ 0
+  unfolding firstOf lookupRows short
+  not-refused n l = rw (A .isSound, lt-leb range id n, ne-eqb (t .count) 0 (λ e. omega arith), le-ltb (length m) (serverAt (t .capacity) (t .count)) (A .holds .long))
+
+  pub looked : id < range → 0 < t .count → compared (lookupReply t m id) ≡ standingReply L id (standing (L .events) id)
+  unfolding lookupReply replyBy
+  looked n l =
+      let s = searchFor t m id in
+      ap compared (settle-yes (lookupRows t m id) (metReply t m (length (s .opened)) (s .met)) (refused (firstOf (lookupRows t m id)) 0) (not-refused n l))
+      ∙ same-reply n

@@ -1,0 +1,107 @@
+-- A reweight on both sides.
+-- Assumes nothing.
+use Prim.Native.Nat.{ℕ, _-_, _≤_, _<_}
+use mathlib.Core.Path.{_≡_, refl, ap, ap₂, _∙_}
+use mathlib.Core.Bool.{true}
+use mathlib.Core.List.{List}
+use native.Mathlib.Omega.{arith}
+use lib.Dec.{leb, ltb}
+use borrow.Author.Tests.{leb-false, ltb-false}
+use Rattle.placement.specs.declared.Fraction.{Fraction}
+use Rattle.placement.specs.Draw.{modulus, drawOf}
+use Rattle.placement.specs.Fraction.{raise}
+use Rattle.placement.specs.Rule.{writeP, takes, readable}
+use Rattle.placement.proofs.Tests.{byBool}
+use Rattle.placement.proofs.Fractions.{exceeds-grows, raise-old}
+use Rattle.placement.proofs.Rules.{writeP-cong}
+use Rattle.table.specs.declared.Table.{Table}
+use Rattle.table.specs.Sound.{weightOf, readP, sound}
+use Rattle.table.specs.Upkeep.{withWeight}
+use Rattle.table.proofs.Upkeep.{WeightChanged, withWeight-is}
+use Rattle.table.proofs.Soundness.{sound-facts, withWeight-arrays, withWeight-sound}
+use Rattle.archive.specs.Refusal.{firstOf}
+use Rattle.archive.specs.Calls.{reweightRows, reweightReply, reweightTable}
+use Rattle.history.specs.Call.{reweight, compared}
+use Rattle.history.specs.Ledger.{Ledger, put, reweightRowsL, withWeightL, enter}
+use Rattle.archive.proofs.Refusals.{passed, settle-yes, settle-no}
+use Rattle.history.proofs.Holds.{Holds}
+use Rattle.history.proofs.Agree.{Agree, put-is, Step, settled}
+
+module _ {t : Table} {m : List ℕ} {L : Ledger} (A : Agree t m L) (server weight : ℕ) where
+  same-rows : firstOf (reweightRows t server weight) ≡ firstOf (reweightRowsL L server weight)
+  unfolding firstOf reweightRows reweightRowsL
+  same-rows =
+      let e2 = ap (λ (c : ℕ). ltb c weight) (A .capacity) in
+      let e3 = ap (λ (n : ℕ). leb n server) (A .count) in
+      rw (A .isSound, e2, e3) (byBool (leb (L .servers) server)
+      (λ d. rw d)
+      (λ d.
+      let e9 = ap₂ (λ (c u : ℕ). ltb (c - u) weight) (A .capacity) (A .used server (omega (arith, A .count, leb-false (L .servers) server d))) in
+      rw (d, e9)))
+
+  module _ (light : weight ≤ t .capacity) (there : server < t .count) where
+    abbrev u : Table
+    u = withWeight t server weight
+
+    abbrev weights : ℕ → ℕ
+    weights = put (L .weight) server weight
+
+    changed : WeightChanged t server weight u
+    changed = withWeight-is t server weight (A .arrays) (sound-facts t (A .isSound) .few) there
+
+    new-sound : sound u ≡ true
+    new-sound = withWeight-sound t server weight (A .arrays) (A .isSound) there light
+
+    new-weight : (k : ℕ) → k < t .count → weightOf u k ≡ weights k
+    new-weight k l = put-is (L .weight) server weight (weightOf u) (changed .weightNew) k (λ n. changed .weightOld k n ∙ A .weights k l)
+
+    new-read : (k : ℕ) → k < t .count → readP u k ≡ raise (L .greatest k) (writeP weights k)
+    new-read k l = changed .raised k l ∙ ap₂ raise (A .readPs k l) (writeP-cong (weightOf u) weights k (λ i a. new-weight i (omega arith)))
+
+    -- what was readable still is
+    still-readable : (id k : ℕ) → k < t .count → readable (L .greatest) id k ≡ true → readable (λ k. raise (L .greatest k) (writeP weights k)) id k ≡ true
+    unfolding readable takes
+    still-readable id k l e =
+        let positive = sound-facts u new-sound .server k (omega (arith, changed .count)) .positive in
+        exceeds-grows modulus (L .greatest k) (raise (L .greatest k) (writeP weights k)) (drawOf id k)
+        (omega (arith, positive, ap (λ (f : Fraction). f .den) (new-read k l)))
+        (raise-old (L .greatest k) (writeP weights k)) e
+
+    holds : Holds (t .capacity) (t .count) (λ k. raise (L .greatest k) (writeP weights k)) (L .events) m
+    holds =
+        let H = A .holds in
+        record {
+          long = H .long;
+          rest = H .rest;
+          free = H .free;
+          fits = H .fits;
+          noneAbove = H .noneAbove;
+          stands = H .stands;
+          opens = λ id k j n l i b. still-readable id k l (H .opens id k j n l i b);
+          tops = H .tops;
+        }
+
+    agrees : Agree u m (withWeightL L server weight)
+    unfolding withWeight withWeightL
+    agrees = record {
+      isSound = new-sound;
+      arrays = withWeight-arrays t server weight (A .arrays);
+      capacity = A .capacity;
+      count = A .count;
+      weights = new-weight;
+      used = A .used;
+      readPs = new-read;
+      words = A .words;
+      holds = holds;
+    }
+
+  pub reweight-step : Step (reweightReply t server weight) (reweightTable t server weight) m (enter L (reweight server weight))
+  unfolding reweightReply reweightTable enter reweightRows compared
+  reweight-step = settled L (reweightRows t server weight) (reweightRowsL L server weight) same-rows _ _ (reweightTable t server weight) m
+      (λ z.
+      let a = passed 0 _ _ z in
+      let b = passed 1 (ltb (t .capacity) weight) _ (a .1) in
+      let c = passed 2 (leb (t .count) server) _ (b .1) in
+      rw (settle-yes (reweightRows t server weight) (withWeight t server weight) t z)
+      (record { alike = refl; agrees = agrees (ltb-false (t .capacity) weight (b .0)) (leb-false (t .count) server (c .0)) }))
+      (λ f. rw (settle-no (reweightRows t server weight) (withWeight t server weight) t f) A)

@@ -1,0 +1,83 @@
+-- A started table over blank words agrees with the opened ledger, and every list of calls keeps them in agreement.
+-- Assumes nothing.
+use Prim.Native.Nat.{ℕ}
+use mathlib.Core.Path.{_≡_, refl, ap₂}
+use mathlib.Core.Bool.{true, not, _&&_}
+use mathlib.Core.List.{List, [], _∷_, map}
+use native.Mathlib.Omega.{arith}
+use lib.ListN.{length-replicate, getD-replicate}
+use lib.Dec.{leb}
+use borrow.Author.Tests.{leb-true, not-false}
+use Rattle.placement.proofs.Tests.{and-l, and-r}
+use Rattle.medium.specs.Word.{blank}
+use Rattle.medium.specs.Entry.{serverAt}
+use Rattle.table.specs.Upkeep.{empty}
+use Rattle.table.proofs.Soundness.{empty-arrays, empty-sound}
+use Rattle.archive.specs.Refusal.{firstOf}
+use Rattle.archive.specs.Calls.{startRows, startTable}
+use Rattle.history.specs.Call.{Call, addServer, reweight, write, delete, lookup, Compared, compared}
+use Rattle.history.specs.Machine.{State, reply, next, after, replies, begin}
+use Rattle.history.specs.Ledger.{Ledger, opening, usedBy, standing, enter, ledgerAfter, ledgerReplies}
+use Rattle.archive.proofs.Refusals.{passed, settle-yes}
+use Rattle.history.proofs.Tops.{TopAt}
+use Rattle.history.proofs.Events.{placeOf, each-none}
+use Rattle.history.proofs.Agree.{Agree, Step}
+use Rattle.history.proofs.AddServerStep.{add-server-step}
+use Rattle.history.proofs.ReweightStep.{reweight-step}
+use Rattle.history.proofs.WriteStep.{write-step}
+use Rattle.history.proofs.DeleteStep.{delete-step}
+use Rattle.history.proofs.LookupStep.{lookup-step}
+
+abbrev pub Agrees : State → Ledger → Type 0
+Agrees S L = Agree (S .table) (S .medium) L
+
+started : (capacity : ℕ) → firstOf (startRows capacity) ≡ 0 → leb 1 capacity && leb capacity 65536 ≡ true
+unfolding startRows
+started capacity z = not-false _ (passed 1 (not (leb 1 capacity && leb capacity 65536)) [] z .0)
+
+pub begin-agrees : (capacity n : ℕ) → firstOf (startRows capacity) ≡ 0 → Agrees (begin capacity n) (opening capacity n)
+unfolding begin startTable opening usedBy serverAt standing placeOf TopAt
+begin-agrees capacity n z =
+    let s = started capacity z in
+    let low = leb-true 1 capacity (and-l (leb 1 capacity) (leb capacity 65536) s) in
+    let high = leb-true capacity 65536 (and-r (leb 1 capacity) (leb capacity 65536) s) in
+    rw (settle-yes (startRows capacity) (empty capacity) (empty 0) z) (record {
+      isSound = empty-sound capacity low high;
+      arrays = empty-arrays capacity;
+      capacity = refl;
+      count = refl;
+      weights = λ k l. absurd (omega arith);
+      used = λ k l. absurd (omega arith);
+      readPs = λ k l. absurd (omega arith);
+      words = length-replicate {A = ℕ} n blank;
+      holds = record {
+        long = omega arith;
+        rest = λ a l i. getD-replicate n a blank 0 (rw length-replicate at i);
+        free = λ k j q l u i b. absurd (omega arith);
+        fits = λ k. omega arith;
+        noneAbove = λ k l. refl;
+        stands = each-none _;
+        opens = λ id k j s l i b. absurd (omega arith);
+        tops = λ id s. record { off = λ k j l i b. absurd (omega arith) };
+      };
+    })
+
+pub step : (S : State) (L : Ledger) → Agrees S L → (c : Call) → Step (reply S c) (next S c .table) (next S c .medium) (enter L c)
+unfolding reply next
+step S L A (addServer weight) = add-server-step A weight
+step S L A (reweight server weight) = reweight-step A server weight
+step S L A (write id value) = write-step A id value
+step S L A (delete id) = delete-step A id
+step S L A (lookup id) = lookup-step A id
+
+pub record Ran (S : State) (L : Ledger) (calls : List Call) : Type 0 where
+  pub alike : map compared (replies S calls) ≡ ledgerReplies L calls
+  pub agrees : Agrees (after S calls) (ledgerAfter L calls)
+
+pub run : (calls : List Call) (S : State) (L : Ledger) → Agrees S L → Ran S L calls
+unfolding replies ledgerReplies after ledgerAfter
+run [] S L A = record { alike = refl; agrees = A }
+run (c ∷ calls) S L A =
+    let s = step S L A c in
+    let r = run calls (next S c) (enter L c .ledger) (s .agrees) in
+    record { alike = ap₂ (λ (x : Compared) (l : List Compared). x ∷ l) (s .alike) (r .alike); agrees = r .agrees }

@@ -1,0 +1,92 @@
+-- The third demand, proved.
+-- Assumes nothing.
+use Prim.Native.Nat.{ℕ, _<_}
+use mathlib.Core.Path.{_≡_, refl, sym, ap, _∙_}
+use mathlib.Core.Logic.{_↔_}
+use mathlib.Core.List.{List, _∷_, _++_, Memᴰ·map}
+use mathlib.Core.Option.{Option, none, some}
+use native.Mathlib.Omega.{arith}
+use Rattle.placement.specs.Below.{nth}
+use Rattle.archive.specs.Refusal.{firstOf}
+use Rattle.archive.specs.declared.Reply.{Reply}
+use Rattle.archive.specs.Calls.{startRows, lookupReply}
+use Rattle.history.specs.Call.{Call, Compared, compared}
+use Rattle.history.specs.Machine.{State, begin}
+use Rattle.history.specs.Ledger.{Event, wrote, Ledger, Standing, opening, usedBy, standing, range, standingReply}
+use Rattle.history.specs.Demand3.{Stands, Demand3, stateThen, ledgerThen}
+use Rattle.history.proofs.Events.{standingAfter, used-write, own-entry, last-stands, stands-came}
+use Rattle.history.proofs.Holds.{write-there}
+use Rattle.history.proofs.LookupStep.{stands-written, looked}
+use Rattle.history.proofs.Run.{Agrees, begin-agrees, run}
+use Rattle.history.proofs.Never.{usual-is, ledger-usual}
+use Rattle.history.proofs.Counting.{live-writes}
+use Rattle.history.proofs.Unaltered.{after-once, after-append}
+
+-- of a state and a ledger that agree
+module _ (S : State) (L : Ledger) (A : Agrees S L) where
+  abbrev reply : ℕ → Reply
+  reply id = lookupReply (S .table) (S .medium) id
+
+  stands : (newer older : List Event) (id value server : ℕ) → L .events ≡ newer ++ (wrote id value server ∷ older) → Stands S L id value server (usedBy older server)
+  stands newer older id value server e =
+      let t = S .table in
+      let H = A .holds in
+      let u = used-write (L .events) newer older id value server e in
+      let w = H .stands newer older id value server e in
+      record {
+        there = omega (arith, A .count, write-there H newer older id value server e);
+        inside = omega (arith, A .capacity, H .fits server);
+        idStands = rw (← (A .capacity)) (w .idThere);
+        valueStands = rw (← (A .capacity)) (w .valueThere);
+      }
+
+  finds : (id : ℕ) (x : Standing) → standing (L .events) id ≡ some x → (reply id .refusal ≡ 0) × (reply id .value ≡ x .value)
+  unfolding compared standingReply
+  finds id x e =
+      let w = stands-came (L .events) id x e .last in
+      let s = stands (w .newer) (w .older) id (x .value) (x .server) (w .split) in
+      let r = looked A id (stands-written A id x e .idSmall) (omega (arith, A .count, s .there)) ∙ ap (standingReply L id) e in
+      (ap (λ (c : Compared). c .refusal) r, ap (λ (c : Compared). c .value) r)
+
+  absent : (id : ℕ) → id < range → 0 < L .servers → (reply id .refusal ≡ 8) ↔ (standing (L .events) id ≡ none)
+  unfolding compared standingReply
+  absent id n l = (
+    λ r. go r (standing (L .events) id) refl,
+    λ e. ap (λ (c : Compared). c .refusal) (looked A id n (omega (arith, A .count)) ∙ ap (standingReply L id) e),
+  )
+    where
+      go : reply id .refusal ≡ 8 → (o : Option Standing) → standing (L .events) id ≡ o → o ≡ none
+      go r none e = refl
+      go r (some x) e = absurd (omega (arith, finds id x e .0))
+
+-- what stands, and no last write
+not-both : {o : Option Standing} {x : Standing} → o ≡ none → o ≡ some x → ⊥
+not-both p q = let z : _≡_ {A = ℕ} 0 1 = cc in omega arith
+
+nothing : (o : Option Standing) → ((x : Standing) → o ≡ some x → ⊥) → o ≡ none
+nothing none f = refl
+nothing (some x) f = absurd (f x refl)
+
+pub demand3 : (capacity n : ℕ) → firstOf (startRows capacity) ≡ 0 → (calls : List Call) → Demand3 capacity n calls
+unfolding compared
+demand3 capacity n z calls =
+    let S = stateThen capacity n calls in
+    let L = ledgerThen capacity n calls in
+    let r = run calls (begin capacity n) (opening capacity n) (begin-agrees capacity n z) in
+    let A : Agrees (stateThen capacity n calls) (ledgerThen capacity n calls) = r .agrees in
+    record {
+      alike = r .alike;
+      finds = λ id value server w. finds S L A id (standingAfter (w .older) value server) (last-stands (L .events) id value server w);
+      absent = λ id s l. (
+        λ e value server w. not-both (absent S L A id s l .0 e) (last-stands (L .events) id value server w),
+        λ f. absent S L A id s l .1 (nothing (standing (L .events) id) (λ x e. f (x .value) (x .server) (stands-came (L .events) id x e .last))),
+      );
+      unaltered = λ before later e a f.
+          ap (λ (l : List Call). nth (stateThen capacity n l .medium) a) (sym e)
+          ∙ ap (λ (T : State). nth (T .medium) a) (after-append before later (begin capacity n))
+          ∙ after-once later (stateThen capacity n before) a f;
+      stands = stands S L A;
+      own = λ newer older newer′ older′ id value id′ value′ server p q u. own-entry newer newer′ older older′ id value id′ value′ server (sym p ∙ q) u;
+      live = live-writes S L A;
+      never = λ x d. usual-is (x .refusal) (ledger-usual calls (opening capacity n) (compared x) (rw (← (r .alike)) (Memᴰ·map compared d)));
+    }

@@ -1,0 +1,135 @@
+-- A write on both sides.
+-- Assumes nothing.
+use Prim.Native.Nat.{ℕ, suc, _<_}
+use mathlib.Core.Path.{_≡_, refl, sym, ap, ap₂, _∙_}
+use mathlib.Core.Bool.{Bool, true, false, _&&_, _||_}
+use mathlib.Core.List.{List, _∷_}
+use native.Mathlib.Omega.{arith}
+use lib.Dec.{leb, eqb}
+use borrow.Author.Tests.{leb-false, eqb-true, eqb-false}
+use Rattle.placement.specs.Draw.{modulus, drawOf}
+use Rattle.placement.specs.Rule.{writeP, takes, readable}
+use Rattle.placement.proofs.Tests.{byBool, true-not-false}
+use Rattle.placement.proofs.Fractions.{exceeds-grows}
+use Rattle.placement.proofs.Rules.{writeServer-is}
+use Rattle.medium.specs.Word.{contentRange, replaced}
+use Rattle.medium.specs.Entry.{entryAt, blankRun}
+use Rattle.medium.specs.Burn.{burnAll, invalidations}
+use Rattle.medium.proofs.Entries.{blank-run}
+use Rattle.medium.proofs.Burns.{length-burnAll}
+use Rattle.table.specs.declared.Table.{Table}
+use Rattle.table.specs.Sound.{weightOf, usedOf, readP}
+use Rattle.table.specs.Upkeep.{withEntry}
+use Rattle.table.proofs.Upkeep.{EntryAdded, withEntry-is}
+use Rattle.table.proofs.Soundness.{sound-facts, withEntry-arrays, withEntry-sound}
+use Rattle.archive.specs.Refusal.{firstOf}
+use Rattle.archive.specs.Search.{reads}
+use Rattle.archive.specs.Calls.{short, target, writeRows, writeMarks, writeBurns, writeReply, writeTable, writeMedium}
+use Rattle.history.specs.Call.{write, compared}
+use Rattle.history.specs.Ledger.{wrote, Ledger, told, usedBy, range, withEvent, writeRowsL, enter}
+use Rattle.archive.proofs.Refusals.{passed, settle-yes, settle-no}
+use Rattle.history.proofs.Events.{used-self, used-other}
+use Rattle.history.proofs.Writing.{withWords, afterWrite, Accepted, write-holds}
+use Rattle.history.proofs.Agree.{Agree, Step, settled, same-short, same-target, same-reads, same-marks}
+
+or-false : (a b : Bool) → a || b ≡ false → (a ≡ false) × (b ≡ false)
+or-false true b e = absurd (true-not-false refl e)
+or-false false b e = (refl, e)
+
+module _ {t : Table} {m : List ℕ} {L : Ledger} (A : Agree t m L) (id value : ℕ) where
+  abbrev server : ℕ
+  server = target t id
+
+  target-there : (t .count ≡ 0 → ⊥) → server < t .count
+  unfolding target
+  target-there n = writeServer-is (weightOf t) (t .count) id (omega (arith, n)) .below
+
+  -- room where the server is not full
+  not-full : server < t .count → (usedOf t server ≡ t .capacity → ⊥) → usedBy (L .events) server < t .capacity
+  not-full l n = omega (arith, n, A .used server l, A .holds .fits server)
+
+  blank-entry : server < t .count → usedBy (L .events) server < t .capacity → blankRun m (entryAt (t .capacity) server (usedOf t server)) 3 ≡ true
+  blank-entry l i =
+      let u = A .used server l in
+      blank-run m (entryAt (t .capacity) server (usedOf t server)) 3 (λ q b. A .holds .free server (usedOf t server) q l (omega arith) (omega arith) b)
+
+  pub same-rows : firstOf (writeRows t m id value) ≡ firstOf (writeRowsL L id value)
+  unfolding firstOf writeRows writeRowsL
+  same-rows =
+      let e3 = ap (λ (c : ℕ). eqb c 0) (A .count) in
+      rw (A .isSound, same-short A) (byBool (eqb (t .count) 0)
+      (λ d. rw (d, sym e3 ∙ d))
+      (λ d.
+      let l = target-there (eqb-false (t .count) 0 d) in
+      let e6 = ap₂ eqb (A .used server l ∙ ap (usedBy (L .events)) (same-target A id)) (A .capacity) in
+      rw (d, sym e3 ∙ d) (byBool (eqb (usedOf t server) (t .capacity))
+      (λ e. rw (e, sym e6 ∙ e))
+      (λ e. rw (e, sym e6 ∙ e, blank-entry l (not-full l (eqb-false (usedOf t server) (t .capacity) e)))))))
+
+  -- the write server is readable: its ReadP is at least its WriteP
+  target-read : server < t .count → readable (L .greatest) id server ≡ true
+  unfolding readable takes target
+  target-read l =
+      let s = sound-facts t (A .isSound) .server server l in
+      sym (same-reads A id server l)
+      ∙ exceeds-grows modulus (writeP (weightOf t) server) (readP t server) (drawOf id server) (s .positive) (s .reads)
+      (writeServer-is (weightOf t) (t .count) id (omega arith) .takesIt)
+
+  pub accepted : firstOf (writeRows t m id value) ≡ 0 → Accepted (t .capacity) (t .count) (L .greatest) (L .events) id value server
+  unfolding writeRows
+  accepted z =
+      let a = passed 0 _ _ z in
+      let b = passed 1 (leb contentRange id || leb contentRange value) _ (a .1) in
+      let c = passed 2 (eqb (t .count) 0) _ (b .1) in
+      let d = passed 4 (short t m) _ (c .1) in
+      let e = passed 5 (eqb (usedOf t server) (t .capacity)) _ (d .1) in
+      let ranges = or-false (leb contentRange id) (leb contentRange value) (b .0) in
+      let l = target-there (eqb-false (t .count) 0 (c .0)) in
+      record {
+        small = leb-false range id (ranges .0);
+        smallValue = leb-false range value (ranges .1);
+        there = l;
+        room = not-full l (eqb-false (usedOf t server) (t .capacity) (e .0));
+        reads = target-read l;
+      }
+
+  -- the medium that an accepted write leaves
+  pub write-medium : server < t .count → burnAll m (writeBurns t m id value) ≡ afterWrite (t .capacity) (t .count) (L .greatest) (L .events) m id value server
+  unfolding writeBurns writeMarks burnAll
+  write-medium l = ap₂
+      (λ (j : ℕ) (marks : List ℕ). burnAll (withWords (t .capacity) m id value server j) (invalidations replaced marks))
+      (A .used server l)
+      (same-marks A id (λ k. leb server k && reads t id k) (λ k. leb server k && readable (L .greatest) id k) (λ k i. ap (λ (b : Bool). leb server k && b) (same-reads A id k i)))
+
+  module _ (W : Accepted (t .capacity) (t .count) (L .greatest) (L .events) id value server) where
+    added : EntryAdded t server (withEntry t server)
+    added = withEntry-is t server (A .arrays) (sound-facts t (A .isSound) .few) (W .there)
+
+    new-used : (k : ℕ) → k < t .count → usedOf (withEntry t server) k ≡ usedBy (wrote id value server ∷ L .events) k
+    new-used k l = byBool (eqb k server)
+        (λ d. rw (eqb-true k server d) (added .usedNew ∙ ap suc (A .used server (W .there)) ∙ sym (used-self id value server (L .events))))
+        (λ d. added .usedOld k (eqb-false k server d) ∙ A .used k l ∙ sym (used-other id value server (L .events) k (eqb-false k server d)))
+
+    agrees : Agree (withEntry t server) (burnAll m (writeBurns t m id value)) (withEvent L (wrote id value server))
+    unfolding withEntry withEvent
+    agrees = record {
+      isSound = withEntry-sound t server (A .arrays) (A .isSound) (W .there) (omega (arith, W .room, A .used server (W .there)));
+      arrays = withEntry-arrays t server (A .arrays);
+      capacity = A .capacity;
+      count = A .count;
+      weights = A .weights;
+      used = new-used;
+      readPs = A .readPs;
+      words = length-burnAll m (writeBurns t m id value) ∙ A .words;
+      holds = rw (write-medium (W .there)) (write-holds (A .holds) W);
+    }
+
+  pub write-step : Step (writeReply t m id value) (writeTable t m id value) (writeMedium t m id value) (enter L (write id value))
+  unfolding writeReply writeTable writeMedium enter compared
+  write-step = settled L (writeRows t m id value) (writeRowsL L id value) same-rows _ _ (writeTable t m id value) (writeMedium t m id value)
+      (λ z. rw (settle-yes (writeRows t m id value) (withEntry t server) t z, settle-yes (writeRows t m id value) (burnAll m (writeBurns t m id value)) m z)
+      (record {
+        alike = ap (λ (k : ℕ). told 0 k 0 0) (same-target A id);
+        agrees = rw (← (same-target A id)) (agrees (accepted z));
+      }))
+      (λ f. rw (settle-no (writeRows t m id value) (withEntry t server) t f, settle-no (writeRows t m id value) (burnAll m (writeBurns t m id value)) m f) A)

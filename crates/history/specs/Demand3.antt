@@ -1,0 +1,65 @@
+-- The third demand: what holds after every list of calls from a fresh table and blank words.
+use Prim.Native.Nat.{ℕ, _≤_, _<_}
+use mathlib.Core.Bool.{Bool, true, not, _&&_}
+use mathlib.Core.Path.{_≡_}
+use mathlib.Core.Logic.{_↔_, _≢_}
+use mathlib.Core.List.{List, [], _∷_, _++_, map, List·Memᴰ}
+use lib.ListN.{length}
+use lib.Dec.{eqb}
+use Rattle.placement.specs.Below.{nth}
+use Rattle.medium.specs.Word.{idWord, valueWord, blank}
+use Rattle.medium.specs.Entry.{entryAt, valueAt}
+use Rattle.archive.specs.declared.Reply.{Reply}
+use Rattle.archive.specs.Calls.{lookupReply}
+use Rattle.history.specs.Call.{Call, compared}
+use Rattle.history.specs.Machine.{State, after, replies, begin, liveEntries}
+use Rattle.history.specs.Ledger.{Event, wrote, deleted, Ledger, opening, usedBy, writes, range, ledgerAfter, ledgerReplies}
+
+-- no event of an id among these
+unfoldable pub untouched : ℕ → List Event → Bool
+untouched id [] = true
+untouched id (wrote a value server ∷ older) = not (eqb a id) && untouched id older
+untouched id (deleted a ∷ older) = not (eqb a id) && untouched id older
+
+-- the events have an accepted write of the id, and after it no write and no delete of that id
+pub record LastWrite (events : List Event) (id value server : ℕ) : Type 0 where
+  pub newer : List Event
+  pub older : List Event
+  pub split : events ≡ newer ++ (wrote id value server ∷ older)
+  pub clear : untouched id newer ≡ true
+
+-- entry j of a server that is there has the id and the value of a write
+pub record Stands (S : State) (L : Ledger) (id value server j : ℕ) : Type 0 where
+  pub there : server < L .servers
+  pub inside : j < L .capacity
+  pub idStands : nth (S .medium) (entryAt (L .capacity) server j) ≡ idWord id
+  pub valueStands : nth (S .medium) (valueAt (L .capacity) server j) ≡ valueWord value
+
+module _ (capacity n : ℕ) (calls : List Call) where
+  -- state and ledger after the list, and what a lookup then replies
+  abbrev pub stateThen : State
+  stateThen = after (begin capacity n) calls
+
+  abbrev pub ledgerThen : Ledger
+  ledgerThen = ledgerAfter (opening capacity n) calls
+
+  abbrev pub lookupThen : ℕ → Reply
+  lookupThen id = lookupReply (stateThen .table) (stateThen .medium) id
+
+pub record Demand3 (capacity n : ℕ) (calls : List Call) : Type 0 where
+  -- each call answers with the refusal number, server, value and opened count that the ledger gives
+  pub alike : map compared (replies (begin capacity n) calls) ≡ ledgerReplies (opening capacity n) calls
+  -- a lookup finds the value of the last accepted write of the id with no accepted delete afterwards
+  pub finds : (id value server : ℕ) → LastWrite (ledgerThen capacity n calls .events) id value server → (lookupThen capacity n calls id .refusal ≡ 0) × (lookupThen capacity n calls id .value ≡ value)
+  -- and answers 'absent' exactly when there is no such write, once a server is there and for ids in range
+  pub absent : (id : ℕ) → id < range → 0 < ledgerThen capacity n calls .servers → (lookupThen capacity n calls id .refusal ≡ 8) ↔ ((value server : ℕ) → LastWrite (ledgerThen capacity n calls .events) id value server → ⊥)
+  -- every word that is not blank after some first part of the list stands unaltered after all of it
+  pub unaltered : (before later : List Call) → before ++ later ≡ calls → (a : ℕ) → nth (stateThen capacity n before .medium) a ≢ blank → nth (stateThen capacity n calls .medium) a ≡ nth (stateThen capacity n before .medium) a
+  -- id and value of each accepted write stand on the server that the ledger gave it, in the entry that was then its used
+  pub stands : (newer older : List Event) (id value server : ℕ) → ledgerThen capacity n calls .events ≡ newer ++ (wrote id value server ∷ older) → Stands (stateThen capacity n calls) (ledgerThen capacity n calls) id value server (usedBy older server)
+  -- which is its own: two accepted writes with the same entry of the same server are the same write
+  pub own : (newer older newer′ older′ : List Event) (id value id′ value′ server : ℕ) → ledgerThen capacity n calls .events ≡ newer ++ (wrote id value server ∷ older) → ledgerThen capacity n calls .events ≡ newer′ ++ (wrote id′ value′ server ∷ older′) → usedBy older server ≡ usedBy older′ server → length older ≡ length older′
+  -- the live entries of all ids together are at most the accepted writes
+  pub live : liveEntries (stateThen capacity n calls) ≤ writes (ledgerThen capacity n calls .events)
+  -- 1, 7 and 10 never come
+  pub never : (r : Reply) → List·Memᴰ r (replies (begin capacity n) calls) → (r .refusal ≢ 1) × (r .refusal ≢ 7) × (r .refusal ≢ 10)

@@ -1,0 +1,196 @@
+-- The plain ledger (document 01, "The plain ledger"). It is fed the capacity, the medium's length and the calls' arguments,
+-- and nothing from table or medium; of the archive it shares the published rule alone.
+use Prim.Native.Nat.{ℕ, suc, _+_, _-_, _*_}
+use mathlib.Core.Bool.{Bool, true, false, cond, not, _&&_, _||_}
+use mathlib.Core.List.{List, [], _∷_}
+use mathlib.Core.Option.{Option, none, some}
+use lib.Dec.{leb, ltb, eqb}
+use Rattle.placement.specs.declared.Fraction.{Fraction}
+use Rattle.placement.specs.Below.{countBelow}
+use Rattle.placement.specs.Fraction.{raise}
+use Rattle.placement.specs.Rule.{writeP, writeServer, readable}
+use Rattle.archive.specs.Refusal.{Row, _when_, firstOf, settle}
+use Rattle.history.specs.Call.{Call, addServer, reweight, write, delete, lookup, Compared}
+
+-- an accepted write (id, value, server) or an accepted delete
+pub data Event : Type 0 where
+  wrote : ℕ → ℕ → ℕ → Event
+  deleted : ℕ → Event
+
+-- the medium's length, the number of servers, their weights, for each the greatest WriteP so far, and the events, the
+-- newest first
+pub record Ledger : Type 0 where
+  pub capacity : ℕ
+  pub words : ℕ
+  pub servers : ℕ
+  pub weight : ℕ → ℕ
+  pub greatest : ℕ → Fraction
+  pub events : List Event
+
+-- no server, write or delete
+unfoldable pub opening : ℕ → ℕ → Ledger
+opening capacity words = record {
+  capacity = capacity;
+  words = words;
+  servers = 0;
+  weight = λ k. 0;
+  greatest = λ k. record { num = 0; den = 1 };
+  events = [];
+}
+
+-- a server's used: the number of writes to it
+unfoldable pub usedBy : List Event → ℕ → ℕ
+usedBy [] k = 0
+usedBy (wrote id value server ∷ older) k = cond (eqb server k) 1 0 + usedBy older k
+usedBy (deleted id ∷ older) k = usedBy older k
+
+unfoldable pub writes : List Event → ℕ
+writes [] = 0
+writes (wrote id value server ∷ older) = suc (writes older)
+writes (deleted id ∷ older) = writes older
+
+-- a write that stands: its value, its server, and its entry, which is the server's used before it
+pub record Standing : Type 0 where
+  pub value : ℕ
+  pub server : ℕ
+  pub entry : ℕ
+
+-- the last write of an id with no delete of it afterwards
+unfoldable pub standing : List Event → ℕ → Option Standing
+standing [] id = none
+standing (wrote a value server ∷ older) id = cond (eqb a id) (some (record { value = value; server = server; entry = usedBy older server })) (standing older id)
+standing (deleted a ∷ older) id = cond (eqb a id) none (standing older id)
+
+unfoldable pub isStanding : Option Standing → Bool
+isStanding none = false
+isStanding (some x) = true
+
+-- what a call makes of the ledger, and its reply
+pub record Entered : Type 0 where
+  pub reply : Compared
+  pub ledger : Ledger
+
+abbrev pub told : ℕ → ℕ → ℕ → ℕ → Compared
+told refusal server value opened = record { refusal = refusal; server = server; value = value; opened = opened }
+
+-- a refused call changes nothing
+unfoldable pub enterBy : Ledger → List Row → Entered → Entered
+enterBy L rows done = settle rows done (record { reply = told (firstOf rows) 0 0 0; ledger = L })
+
+-- f with another value at k
+unfoldable pub put : {A : Type 0} → (ℕ → A) → ℕ → A → ℕ → A
+put f k x i = cond (eqb i k) x (f i)
+
+-- add_server: the new server's greatest WriteP is its first
+
+unfoldable pub addServerRowsL : Ledger → ℕ → List Row
+addServerRowsL L weight =
+    2 when ltb (L .capacity) weight
+    ∷ 4 when eqb (L .servers) 256
+    ∷ 5 when ltb (L .words) (3 * L .capacity * suc (L .servers))
+    ∷ []
+
+unfoldable pub withServerL : Ledger → ℕ → Ledger
+withServerL L weight =
+    let weights = put (L .weight) (L .servers) weight in
+    record {
+      capacity = L .capacity;
+      words = L .words;
+      servers = suc (L .servers);
+      weight = weights;
+      greatest = put (L .greatest) (L .servers) (writeP weights (L .servers));
+      events = L .events;
+    }
+
+-- reweight: every server's greatest WriteP takes today's where that is strictly greater
+
+unfoldable pub reweightRowsL : Ledger → ℕ → ℕ → List Row
+reweightRowsL L server weight =
+    2 when ltb (L .capacity) weight
+    ∷ 3 when leb (L .servers) server
+    ∷ 9 when ltb (L .capacity - usedBy (L .events) server) weight
+    ∷ []
+
+unfoldable pub withWeightL : Ledger → ℕ → ℕ → Ledger
+withWeightL L server weight =
+    let weights = put (L .weight) server weight in
+    record {
+      capacity = L .capacity;
+      words = L .words;
+      servers = L .servers;
+      weight = weights;
+      greatest = λ k. raise (L .greatest k) (writeP weights k);
+      events = L .events;
+    }
+
+-- ids and values are below 2^30
+abbrev pub range : ℕ
+range = 1073741824
+
+unfoldable pub shortL : Ledger → Bool
+shortL L = ltb (L .words) (3 * L .capacity * L .servers)
+
+unfoldable pub withEvent : Ledger → Event → Ledger
+withEvent L event = record {
+  capacity = L .capacity;
+  words = L .words;
+  servers = L .servers;
+  weight = L .weight;
+  greatest = L .greatest;
+  events = event ∷ L .events;
+}
+
+-- write: its server is the write rule's pick
+
+unfoldable pub targetL : Ledger → ℕ → ℕ
+targetL L id = writeServer (L .weight) (L .servers) id
+
+unfoldable pub writeRowsL : Ledger → ℕ → ℕ → List Row
+writeRowsL L id value =
+    2 when (leb range id || leb range value)
+    ∷ 3 when eqb (L .servers) 0
+    ∷ 5 when shortL L
+    ∷ 6 when eqb (usedBy (L .events) (targetL L id)) (L .capacity)
+    ∷ []
+
+-- delete
+
+unfoldable pub deleteRowsL : Ledger → ℕ → List Row
+deleteRowsL L id =
+    2 when leb range id
+    ∷ 3 when eqb (L .servers) 0
+    ∷ 5 when shortL L
+    ∷ 8 when not (isStanding (standing (L .events) id))
+    ∷ []
+
+-- lookup: the value of the id's last write, or 8; the servers from that write's upward whose greatest WriteP exceeds their
+-- draw, or all such servers
+
+unfoldable pub lookupRowsL : Ledger → ℕ → List Row
+lookupRowsL L id =
+    2 when leb range id
+    ∷ 3 when eqb (L .servers) 0
+    ∷ 5 when shortL L
+    ∷ []
+
+unfoldable pub openedFrom : Ledger → ℕ → ℕ → ℕ
+openedFrom L id from = countBelow (λ k. leb from k && readable (L .greatest) id k) (L .servers)
+
+unfoldable pub standingReply : Ledger → ℕ → Option Standing → Compared
+standingReply L id none = told 8 0 0 (openedFrom L id 0)
+standingReply L id (some x) = told 0 0 (x .value) (openedFrom L id (x .server))
+
+unfoldable pub enter : Ledger → Call → Entered
+enter L (addServer weight) = enterBy L (addServerRowsL L weight) (record { reply = told 0 (L .servers) 0 0; ledger = withServerL L weight })
+enter L (reweight server weight) = enterBy L (reweightRowsL L server weight) (record { reply = told 0 server 0 0; ledger = withWeightL L server weight })
+enter L (write id value) = enterBy L (writeRowsL L id value) (record { reply = told 0 (targetL L id) 0 0; ledger = withEvent L (wrote id value (targetL L id)) })
+enter L (delete id) = enterBy L (deleteRowsL L id) (record { reply = told 0 0 0 0; ledger = withEvent L (deleted id) })
+enter L (lookup id) = enterBy L (lookupRowsL L id) (record { reply = standingReply L id (standing (L .events) id); ledger = L })
+
+unfoldable pub ledgerAfter : Ledger → List Call → Ledger
+ledgerAfter L [] = L
+ledgerAfter L (c ∷ cs) = ledgerAfter (enter L c .ledger) cs
+
+unfoldable pub ledgerReplies : Ledger → List Call → List Compared
+ledgerReplies L [] = []
+ledgerReplies L (c ∷ cs) = enter L c .reply ∷ ledgerReplies (enter L c .ledger) cs

@@ -1,0 +1,7 @@
+pub mod Call
+pub mod Machine
+pub mod Ledger
+pub mod Demand3
+pub mod LiveRule
+pub mod Replay
+pub mod Example

@@ -1,0 +1,21 @@
+-- When an accepted write's entry is live, by the calls alone.
+use Prim.Native.Nat.{ℕ}
+use mathlib.Core.Bool.{Bool, true, not, _&&_, _||_}
+use mathlib.Core.Path.{_≡_}
+use mathlib.Core.List.{List, [], _∷_, _++_}
+use lib.Dec.{ltb, eqb}
+use Rattle.medium.specs.Entry.{live}
+use Rattle.table.specs.Sound.{usedOf}
+use Rattle.history.specs.Call.{Call}
+use Rattle.history.specs.Ledger.{Event, wrote, deleted, usedBy}
+use Rattle.history.specs.Demand3.{stateThen, ledgerThen}
+
+-- among the later events there is no delete of the id and no write of it to the same or a lower server
+unfoldable pub stays : ℕ → ℕ → List Event → Bool
+stays id server [] = true
+stays id server (wrote a value k ∷ newer) = (not (eqb a id) || ltb server k) && stays id server newer
+stays id server (deleted a ∷ newer) = not (eqb a id) && stays id server newer
+
+-- after the list each accepted write's entry is live for its id exactly when it stays
+pub record LiveRule (capacity n : ℕ) (calls : List Call) : Type 0 where
+  pub rule : (newer older : List Event) (id value server : ℕ) → ledgerThen capacity n calls .events ≡ newer ++ (wrote id value server ∷ older) → live (stateThen capacity n calls .table .capacity) (usedOf (stateThen capacity n calls .table) server) (stateThen capacity n calls .medium) id server (usedBy older server) ≡ stays id server newer

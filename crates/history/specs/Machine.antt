@@ -1,0 +1,55 @@
+-- The archive run over a list of calls: each call gets table and medium as the call before left them.
+use Prim.Native.Nat.{ℕ}
+use mathlib.Core.List.{List, [], _∷_}
+use mathlib.Core.Bool.{Bool, _&&_}
+use lib.ListN.{replicate}
+use lib.Dec.{ltb}
+use Rattle.placement.specs.Below.{nth, countBelow, total}
+use Rattle.medium.specs.Word.{contentRange, blank}
+use Rattle.medium.specs.Entry.{entryAt, live}
+use Rattle.table.specs.declared.Table.{Table}
+use Rattle.table.specs.Sound.{usedOf}
+use Rattle.archive.specs.declared.Reply.{Reply}
+use Rattle.archive.specs.Calls.{startTable, addServerReply, addServerTable, reweightReply, reweightTable, writeReply, writeTable, writeMedium, deleteReply, deleteMedium, lookupReply}
+use Rattle.history.specs.Call.{Call, addServer, reweight, write, delete, lookup}
+
+pub record State : Type 0 where
+  pub table : Table
+  pub medium : List ℕ
+
+unfoldable pub reply : State → Call → Reply
+reply S (addServer weight) = addServerReply (S .table) (S .medium) weight
+reply S (reweight server weight) = reweightReply (S .table) server weight
+reply S (write id value) = writeReply (S .table) (S .medium) id value
+reply S (delete id) = deleteReply (S .table) (S .medium) id
+reply S (lookup id) = lookupReply (S .table) (S .medium) id
+
+unfoldable pub next : State → Call → State
+next S (addServer weight) = record { table = addServerTable (S .table) (S .medium) weight; medium = S .medium }
+next S (reweight server weight) = record { table = reweightTable (S .table) server weight; medium = S .medium }
+next S (write id value) = record { table = writeTable (S .table) (S .medium) id value; medium = writeMedium (S .table) (S .medium) id value }
+next S (delete id) = record { table = S .table; medium = deleteMedium (S .table) (S .medium) id }
+next S (lookup id) = S
+
+unfoldable pub after : State → List Call → State
+after S [] = S
+after S (c ∷ cs) = after (next S c) cs
+
+unfoldable pub replies : State → List Call → List Reply
+replies S [] = []
+replies S (c ∷ cs) = reply S c ∷ replies (next S c) cs
+
+-- a started table over n blank words
+unfoldable pub begin : ℕ → ℕ → State
+begin capacity n = record { table = startTable capacity; medium = replicate n blank }
+
+-- the id word of entry j of server k, and whether the entry is live for it: it can be live for no other id
+abbrev pub idAt : State → ℕ → ℕ → ℕ
+idAt S k j = nth (S .medium) (entryAt (S .table .capacity) k j)
+
+unfoldable pub liveForItsId : State → ℕ → ℕ → Bool
+liveForItsId S k j = ltb (idAt S k j) contentRange && live (S .table .capacity) (usedOf (S .table) k) (S .medium) (idAt S k j) k j
+
+-- the live entries of all ids together
+unfoldable pub liveEntries : State → ℕ
+liveEntries S = total (λ k. countBelow (liveForItsId S k) (usedOf (S .table) k)) (S .table .count)
