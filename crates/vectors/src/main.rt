@@ -1,7 +1,12 @@
 // Runs document 01's known draws and edges on the compiled code, a line each; the stored stdout has what they should be.
+// A call's line has its refusal number, server, value, opened count and number of invalidated entries.
+mod calls;
 mod comparisons;
 mod draws;
+mod edges;
+mod filings;
 mod print;
+mod servers;
 
 fn main() {
     draws::steps();
@@ -10,4 +15,16 @@ fn main() {
     draws::picks();
     comparisons::exceeding();
     comparisons::at_least();
+    servers::starts();
+    servers::last_server();
+    servers::additions();
+    servers::weights();
+    edges::range();
+    edges::full();
+    edges::tables();
+    edges::media();
+    filings::example();
+    filings::passed_on();
+    filings::newest_only();
+    filings::worked_out_anew();
 }
