@@ -60,3 +60,23 @@ pub fn worked_out_anew() {
     let moved = calls::reweight(next, 1, 0, b"server 1 to weight 0: ");
     calls::lookup(moved, &medium, 9, b"lookup, by the ReadP of before: ");
 }
+
+// A fraction equal to the draw does not exceed it: id 266891511 draws 2147483648, half of 2^32, on server 1.
+pub fn at_least_for_exceeds() {
+    let mut medium: [u32; 12] = [4294967295; 12];
+    print::word(
+        b"draw of id 266891511 on server 1: ",
+        placement::draw(266891511, 1),
+    );
+    let empty = calls::start(2);
+    let one = calls::add_server(empty, &medium, 1, b"server 0 of weight 1: ");
+    let two = calls::add_server(one, &medium, 1, b"server 1 of weight 1: ");
+    let next = calls::write(
+        two,
+        &mut medium,
+        266891511,
+        77,
+        b"write where WriteP equals the draw: ",
+    );
+    calls::lookup(next, &medium, 266891511, b"lookup: ");
+}

@@ -27,4 +27,5 @@ fn main() {
     filings::passed_on();
     filings::newest_only();
     filings::worked_out_anew();
+    filings::at_least_for_exceeds();
 }
