@@ -36,30 +36,44 @@ pub record Stands (S : State) (L : Ledger) (id value server j : ℕ) : Type 0 wh
   pub valueStands : nth (S .medium) (valueAt (L .capacity) server j) ≡ valueWord value
 
 module _ (capacity n : ℕ) (calls : List Call) where
-  -- state and ledger after the list, and what a lookup then replies
+  -- state and ledger after the list, its events, and what a lookup then replies
   abbrev pub stateThen : State
   stateThen = after (begin capacity n) calls
 
   abbrev pub ledgerThen : Ledger
   ledgerThen = ledgerAfter (opening capacity n) calls
 
+  abbrev pub eventsThen : List Event
+  eventsThen = ledgerThen .events
+
   abbrev pub lookupThen : ℕ → Reply
   lookupThen id = lookupReply (stateThen .table) (stateThen .medium) id
 
-pub record Demand3 (capacity n : ℕ) (calls : List Call) : Type 0 where
-  -- each call answers with the refusal number, server, value and opened count that the ledger gives
-  pub alike : map compared (replies (begin capacity n) calls) ≡ ledgerReplies (opening capacity n) calls
-  -- a lookup finds the value of the last accepted write of the id with no accepted delete afterwards
-  pub finds : (id value server : ℕ) → LastWrite (ledgerThen capacity n calls .events) id value server → (lookupThen capacity n calls id .refusal ≡ 0) × (lookupThen capacity n calls id .value ≡ value)
-  -- and answers 'absent' exactly when there is no such write, once a server is there and for ids in range
-  pub absent : (id : ℕ) → id < range → 0 < ledgerThen capacity n calls .servers → (lookupThen capacity n calls id .refusal ≡ 8) ↔ ((value server : ℕ) → LastWrite (ledgerThen capacity n calls .events) id value server → ⊥)
-  -- every word that is not blank after some first part of the list stands unaltered after all of it
-  pub unaltered : (before later : List Call) → before ++ later ≡ calls → (a : ℕ) → nth (stateThen capacity n before .medium) a ≢ blank → nth (stateThen capacity n calls .medium) a ≡ nth (stateThen capacity n before .medium) a
-  -- id and value of each accepted write stand on the server that the ledger gave it, in the entry that was then its used
-  pub stands : (newer older : List Event) (id value server : ℕ) → ledgerThen capacity n calls .events ≡ newer ++ (wrote id value server ∷ older) → Stands (stateThen capacity n calls) (ledgerThen capacity n calls) id value server (usedBy older server)
-  -- which is its own: two accepted writes with the same entry of the same server are the same write
-  pub own : (newer older newer′ older′ : List Event) (id value id′ value′ server : ℕ) → ledgerThen capacity n calls .events ≡ newer ++ (wrote id value server ∷ older) → ledgerThen capacity n calls .events ≡ newer′ ++ (wrote id′ value′ server ∷ older′) → usedBy older server ≡ usedBy older′ server → length older ≡ length older′
-  -- the live entries of all ids together are at most the accepted writes
-  pub live : liveEntries (stateThen capacity n calls) ≤ writes (ledgerThen capacity n calls .events)
-  -- 1, 7 and 10 never come
-  pub never : (r : Reply) → List·Memᴰ r (replies (begin capacity n) calls) → (r .refusal ≢ 1) × (r .refusal ≢ 7) × (r .refusal ≢ 10)
+  pub record Demand3 : Type 0 where
+    -- each call answers with the refusal number, server, value and opened count that the ledger gives
+    pub alike : map compared (replies (begin capacity n) calls) ≡ ledgerReplies (opening capacity n) calls
+    -- a lookup finds the value of the last accepted write of the id with no accepted delete afterwards
+    pub finds : (id value server : ℕ) → LastWrite eventsThen id value server
+        → (lookupThen id .refusal ≡ 0) × (lookupThen id .value ≡ value)
+    -- and answers 'absent' exactly when there is no such write, once a server is there and for ids in range
+    pub absent : (id : ℕ) → id < range → 0 < ledgerThen .servers
+        → (lookupThen id .refusal ≡ 8) ↔ ((value server : ℕ) → LastWrite eventsThen id value server → ⊥)
+    -- every word that is not blank after some first part of the list stands unaltered after all of it
+    pub unaltered : (before later : List Call) → before ++ later ≡ calls → (a : ℕ)
+        → nth (after (begin capacity n) before .medium) a ≢ blank
+        → nth (stateThen .medium) a ≡ nth (after (begin capacity n) before .medium) a
+    -- id and value of each accepted write stand on the server that the ledger gave it, in the entry that was then its used
+    pub stands : (newer older : List Event) (id value server : ℕ)
+        → eventsThen ≡ newer ++ (wrote id value server ∷ older)
+        → Stands stateThen ledgerThen id value server (usedBy older server)
+    -- which is its own: two accepted writes with the same entry of the same server are the same write
+    pub own : (newer older newer′ older′ : List Event) (id value id′ value′ server : ℕ)
+        → eventsThen ≡ newer ++ (wrote id value server ∷ older)
+        → eventsThen ≡ newer′ ++ (wrote id′ value′ server ∷ older′)
+        → usedBy older server ≡ usedBy older′ server
+        → length older ≡ length older′
+    -- the live entries of all ids together are at most the accepted writes
+    pub live : liveEntries stateThen ≤ writes eventsThen
+    -- 1, 7 and 10 never come
+    pub never : (r : Reply) → List·Memᴰ r (replies (begin capacity n) calls)
+        → (r .refusal ≢ 1) × (r .refusal ≢ 7) × (r .refusal ≢ 10)

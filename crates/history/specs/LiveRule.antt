@@ -7,8 +7,9 @@ use lib.Dec.{ltb, eqb}
 use Rattle.medium.specs.Entry.{live}
 use Rattle.table.specs.Sound.{usedOf}
 use Rattle.history.specs.Call.{Call}
+use Rattle.history.specs.Machine.{State}
 use Rattle.history.specs.Ledger.{Event, wrote, deleted, usedBy}
-use Rattle.history.specs.Demand3.{stateThen, ledgerThen}
+use Rattle.history.specs.Demand3.{stateThen, eventsThen}
 
 -- among the later events there is no delete of the id and no write of it to the same or a lower server
 unfoldable pub stays : ℕ → ℕ → List Event → Bool
@@ -16,6 +17,12 @@ stays id server [] = true
 stays id server (wrote a value k ∷ newer) = (not (eqb a id) || ltb server k) && stays id server newer
 stays id server (deleted a ∷ newer) = not (eqb a id) && stays id server newer
 
+-- entry j of server k is live for an id
+abbrev pub liveIn : State → ℕ → ℕ → ℕ → Bool
+liveIn S id k j = live (S .table .capacity) (usedOf (S .table) k) (S .medium) id k j
+
 -- after the list each accepted write's entry is live for its id exactly when it stays
 pub record LiveRule (capacity n : ℕ) (calls : List Call) : Type 0 where
-  pub rule : (newer older : List Event) (id value server : ℕ) → ledgerThen capacity n calls .events ≡ newer ++ (wrote id value server ∷ older) → live (stateThen capacity n calls .table .capacity) (usedOf (stateThen capacity n calls .table) server) (stateThen capacity n calls .medium) id server (usedBy older server) ≡ stays id server newer
+  pub rule : (newer older : List Event) (id value server : ℕ)
+      → eventsThen capacity n calls ≡ newer ++ (wrote id value server ∷ older)
+      → liveIn (stateThen capacity n calls) id server (usedBy older server) ≡ stays id server newer

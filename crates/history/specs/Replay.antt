@@ -78,6 +78,11 @@ replyAt capacity m calls i = replyTo (after (started capacity m) (callsBelow cal
 unfoldable pub ledgerReplyAt : ℕ → ℕ → List ℕ → ℕ → Compared
 ledgerReplyAt capacity n calls i = ledgerReplyTo (ledgerAfter (opening capacity n) (callsBelow calls i)) (callAt calls i)
 
+-- what is compared of reply i, by its words
+abbrev pub comparedAt : List ℕ → ℕ → Compared
+comparedAt words i = told (nth words (5 * i)) (nth words (5 * i + 1)) (nth words (5 * i + 2)) (nth words (5 * i + 3))
+
 -- on blank words the replies' refusal, server, value and opened are the plain ledger's
 pub record LedgerWords (capacity : ℕ) (m calls : List ℕ) (n : ℕ) (replies : List ℕ) : Type 0 where
-  pub alike : ((a : ℕ) → a < length m → nth m a ≡ blank) → (i : ℕ) → i < n → record { refusal = nth replies (5 * i); server = nth replies (5 * i + 1); value = nth replies (5 * i + 2); opened = nth replies (5 * i + 3) } ≡ ledgerReplyAt capacity (length m) calls i
+  pub alike : ((a : ℕ) → a < length m → nth m a ≡ blank)
+      → (i : ℕ) → i < n → comparedAt replies i ≡ ledgerReplyAt capacity (length m) calls i
