@@ -17,11 +17,14 @@ pub record Met (t : Table) (m : List ℕ) (id : ℕ) (p : Place) : Type 0 where
   pub below : p .server < t .count
   pub isRead : reads t id (p .server) ≡ true
   pub isLive : live (t .capacity) (usedOf t (p .server)) m id (p .server) (p .entry) ≡ true
-  pub top : (k : ℕ) → k < t .count → reads t id k ≡ true → (j : ℕ) → live (t .capacity) (usedOf t k) m id k j ≡ true → (k ≤ p .server) × (k ≡ p .server → j ≤ p .entry)
+  pub top : (k : ℕ) → k < t .count → reads t id k ≡ true
+      → (j : ℕ) → live (t .capacity) (usedOf t k) m id k j ≡ true
+      → (k ≤ p .server) × (k ≡ p .server → j ≤ p .entry)
 
 -- no readable server has a live entry of the id
 pub record NoneMet (t : Table) (m : List ℕ) (id : ℕ) : Type 0 where
-  pub nowhere : (k : ℕ) → k < t .count → reads t id k ≡ true → (j : ℕ) → live (t .capacity) (usedOf t k) m id k j ≡ true → ⊥
+  pub nowhere : (k : ℕ) → k < t .count → reads t id k ≡ true
+      → (j : ℕ) → live (t .capacity) (usedOf t k) m id k j ≡ true → ⊥
 
 -- the lowest server that a search which met this may open
 unfoldable pub lowest : Option Place → ℕ
@@ -45,4 +48,5 @@ pub record SameOpened (t u : Table) (m w : List ℕ) (id : ℕ) : Type 0 where
   pub readPs : (k : ℕ) → k < t .count → readP t k ≡ readP u k
   pub long : length m ≡ length w
   pub used : (k : ℕ) → k < t .count → opens t m id k ≡ true → usedOf t k ≡ usedOf u k
-  pub words : (k a : ℕ) → k < t .count → opens t m id k ≡ true → serverAt (t .capacity) k ≤ a → a < serverAt (t .capacity) (suc k) → nth m a ≡ nth w a
+  pub words : (k a : ℕ) → k < t .count → opens t m id k ≡ true
+      → serverAt (t .capacity) k ≤ a → a < serverAt (t .capacity) (suc k) → nth m a ≡ nth w a

@@ -58,7 +58,9 @@ pub record Standing : Type 0 where
 -- the last write of an id with no delete of it afterwards
 unfoldable pub standing : List Event → ℕ → Option Standing
 standing [] id = none
-standing (wrote a value server ∷ older) id = cond (eqb a id) (some (record { value = value; server = server; entry = usedBy older server })) (standing older id)
+standing (wrote a value server ∷ older) id =
+    cond (eqb a id) (some (record { value = value; server = server; entry = usedBy older server }))
+    (standing older id)
 standing (deleted a ∷ older) id = cond (eqb a id) none (standing older id)
 
 unfoldable pub isStanding : Option Standing → Bool
@@ -181,11 +183,17 @@ standingReply L id none = told 8 0 0 (openedFrom L id 0)
 standingReply L id (some x) = told 0 0 (x .value) (openedFrom L id (x .server))
 
 unfoldable pub enter : Ledger → Call → Entered
-enter L (addServer weight) = enterBy L (addServerRowsL L weight) (record { reply = told 0 (L .servers) 0 0; ledger = withServerL L weight })
-enter L (reweight server weight) = enterBy L (reweightRowsL L server weight) (record { reply = told 0 server 0 0; ledger = withWeightL L server weight })
-enter L (write id value) = enterBy L (writeRowsL L id value) (record { reply = told 0 (targetL L id) 0 0; ledger = withEvent L (wrote id value (targetL L id)) })
-enter L (delete id) = enterBy L (deleteRowsL L id) (record { reply = told 0 0 0 0; ledger = withEvent L (deleted id) })
-enter L (lookup id) = enterBy L (lookupRowsL L id) (record { reply = standingReply L id (standing (L .events) id); ledger = L })
+enter L (addServer weight) =
+    enterBy L (addServerRowsL L weight) (record { reply = told 0 (L .servers) 0 0; ledger = withServerL L weight })
+enter L (reweight server weight) =
+    enterBy L (reweightRowsL L server weight) (record { reply = told 0 server 0 0; ledger = withWeightL L server weight })
+enter L (write id value) =
+    let k = targetL L id in
+    enterBy L (writeRowsL L id value) (record { reply = told 0 k 0 0; ledger = withEvent L (wrote id value k) })
+enter L (delete id) =
+    enterBy L (deleteRowsL L id) (record { reply = told 0 0 0 0; ledger = withEvent L (deleted id) })
+enter L (lookup id) =
+    enterBy L (lookupRowsL L id) (record { reply = standingReply L id (standing (L .events) id); ledger = L })
 
 unfoldable pub ledgerAfter : Ledger → List Call → Ledger
 ledgerAfter L [] = L

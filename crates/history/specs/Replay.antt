@@ -57,7 +57,11 @@ ledgerReplyTo L (some c) = enter L c .reply
 -- the five words of reply i
 unfoldable pub withReply : List ℕ → ℕ → Reply → List ℕ
 withReply words i r =
-    set (set (set (set (set words (5 * i) (r .refusal)) (5 * i + 1) (r .server)) (5 * i + 2) (r .value)) (5 * i + 3) (r .opened)) (5 * i + 4) (r .invalidated)
+    let refusal = set words (5 * i) (r .refusal) in
+    let server = set refusal (5 * i + 1) (r .server) in
+    let value = set server (5 * i + 2) (r .value) in
+    let opened = set value (5 * i + 3) (r .opened) in
+    set opened (5 * i + 4) (r .invalidated)
 
 -- the words with the first n replies, and the rest as lent
 unfoldable pub withReplies : (ℕ → Reply) → ℕ → List ℕ → List ℕ
