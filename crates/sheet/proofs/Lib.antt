@@ -1,0 +1,2 @@
+mod Reading
+mod Printing

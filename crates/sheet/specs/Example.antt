@@ -1,0 +1,56 @@
+-- Document 01's worked example, from bytes to bytes, computed over the definitions.
+use Prim.Native.Nat.{ℕ}
+use mathlib.Core.Path.{_≡_, refl}
+use mathlib.Core.List.{List, [], _∷_}
+use lib.ListN.{replicate}
+use Rattle.placement.specs.Below.{allBelow, highest, orZero, upward, countBelow, total, setBelow}
+use Rattle.placement.specs.Draw.{stepOf, nonzero, seedOf, xorLeft, xorRight, roundOf, drawOf}
+use Rattle.placement.specs.Fraction.{exceeds, atLeast, raise}
+use Rattle.placement.specs.Rule.{shareOf, writeP, takes, pick, writeServer, readable}
+use Rattle.medium.specs.Entry.{serverAt, entryAt, bears, live, blankRun}
+use Rattle.medium.specs.Burn.{burnAll, marksOn, marksOver, invalidations}
+use Rattle.table.specs.Sound.{readSound, serverSound, sound}
+use Rattle.table.specs.Upkeep.{withServer, withWeight, withEntry}
+use Rattle.archive.specs.Refusal.{firstOf, settle}
+use Rattle.archive.specs.Reply.{replyBy}
+use Rattle.archive.specs.Search.{lastLive, opening, searchBelow, searchFor}
+use Rattle.archive.specs.Calls.{startRows, startTable, addServerRows, addServerReply, addServerTable, reweightRows, reweightReply, reweightTable, short, target, writeRows, writeMarks, writeBurns, writeReply, writeTable, writeMedium, isMet, deleteRows, deleteMarks, deleteReply, deleteMedium, lookupRows, metReply, lookupReply}
+use Rattle.history.specs.Machine.{reply, next}
+use Rattle.sheet.specs.Line.{isDigit, digitRun, valueOf, numberAt, spaced, last, one, first, two, lineOf, longer, linesOf}
+use Rattle.sheet.specs.Print.{digits, decimal, printed, question, answered}
+use Rattle.sheet.specs.Sheet.{started, called, run, outputOf}
+
+-- a line each, LF at its end
+pub input : List ℕ
+input =
+    83 ∷ 32 ∷ 52 ∷ 10 ∷
+    70 ∷ 32 ∷ 49 ∷ 10 ∷
+    70 ∷ 32 ∷ 48 ∷ 10 ∷
+    70 ∷ 32 ∷ 50 ∷ 10 ∷
+    87 ∷ 32 ∷ 54 ∷ 50 ∷ 54 ∷ 54 ∷ 50 ∷ 55 ∷ 50 ∷ 56 ∷ 54 ∷ 32 ∷ 53 ∷ 48 ∷ 48 ∷ 10 ∷
+    76 ∷ 32 ∷ 54 ∷ 50 ∷ 54 ∷ 54 ∷ 50 ∷ 55 ∷ 50 ∷ 56 ∷ 54 ∷ 10 ∷
+    71 ∷ 32 ∷ 48 ∷ 32 ∷ 50 ∷ 10 ∷
+    87 ∷ 32 ∷ 54 ∷ 50 ∷ 54 ∷ 54 ∷ 50 ∷ 55 ∷ 50 ∷ 56 ∷ 54 ∷ 32 ∷ 55 ∷ 52 ∷ 48 ∷ 10 ∷
+    76 ∷ 32 ∷ 54 ∷ 50 ∷ 54 ∷ 54 ∷ 50 ∷ 55 ∷ 50 ∷ 56 ∷ 54 ∷ 10 ∷
+    68 ∷ 32 ∷ 54 ∷ 50 ∷ 54 ∷ 54 ∷ 50 ∷ 55 ∷ 50 ∷ 56 ∷ 54 ∷ 10 ∷
+    76 ∷ 32 ∷ 54 ∷ 50 ∷ 54 ∷ 54 ∷ 50 ∷ 55 ∷ 50 ∷ 56 ∷ 54 ∷ 10 ∷
+    []
+
+pub output : List ℕ
+output =
+    83 ∷ 32 ∷ 48 ∷ 32 ∷ 48 ∷ 32 ∷ 48 ∷ 10 ∷
+    70 ∷ 32 ∷ 48 ∷ 32 ∷ 48 ∷ 32 ∷ 48 ∷ 10 ∷
+    70 ∷ 32 ∷ 48 ∷ 32 ∷ 49 ∷ 32 ∷ 48 ∷ 10 ∷
+    70 ∷ 32 ∷ 48 ∷ 32 ∷ 50 ∷ 32 ∷ 48 ∷ 10 ∷
+    87 ∷ 32 ∷ 48 ∷ 32 ∷ 50 ∷ 32 ∷ 48 ∷ 10 ∷
+    76 ∷ 32 ∷ 48 ∷ 32 ∷ 53 ∷ 48 ∷ 48 ∷ 32 ∷ 49 ∷ 10 ∷
+    71 ∷ 32 ∷ 48 ∷ 32 ∷ 48 ∷ 32 ∷ 48 ∷ 10 ∷
+    87 ∷ 32 ∷ 48 ∷ 32 ∷ 48 ∷ 32 ∷ 49 ∷ 10 ∷
+    76 ∷ 32 ∷ 48 ∷ 32 ∷ 55 ∷ 52 ∷ 48 ∷ 32 ∷ 50 ∷ 10 ∷
+    68 ∷ 32 ∷ 48 ∷ 32 ∷ 49 ∷ 32 ∷ 48 ∷ 10 ∷
+    76 ∷ 32 ∷ 56 ∷ 32 ∷ 48 ∷ 32 ∷ 50 ∷ 10 ∷
+    []
+
+pub example : outputOf input (replicate 36 4294967295) .bytes ≡ output
+unfolding input output allBelow highest orZero upward countBelow total setBelow stepOf nonzero seedOf xorLeft xorRight roundOf drawOf exceeds atLeast raise shareOf writeP takes pick writeServer readable serverAt entryAt bears live blankRun burnAll marksOn marksOver invalidations readSound serverSound sound withServer withWeight withEntry firstOf settle replyBy lastLive opening searchBelow searchFor startRows startTable addServerRows addServerReply addServerTable reweightRows reweightReply reweightTable short target writeRows writeMarks writeBurns writeReply writeTable writeMedium isMet deleteRows deleteMarks deleteReply deleteMedium lookupRows metReply lookupReply reply next isDigit digitRun valueOf numberAt spaced last one first two lineOf longer linesOf digits decimal printed question answered started called run outputOf
+example = refl

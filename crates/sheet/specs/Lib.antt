@@ -1,0 +1,4 @@
+pub mod Line
+pub mod Print
+pub mod Sheet
+pub mod Example
