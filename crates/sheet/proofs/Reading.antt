@@ -38,8 +38,8 @@ next-value s from n v e = rw (add-one, e)
 pub next-bound : (v n d : ℕ) → v < 10 ^ n → d ≤ 9 → v * 10 + d < 10 ^ (n + 1)
 next-bound v n d l h = rw add-one (omega arith)
 
-pub ten-fit : (v n : ℕ) → v < 10 ^ n → n ≤ 10 → v < 10000000000
-ten-fit v n l h = let m : 10 ^ n ≤ 10 ^ 10 = pow-le-pow-right (omega arith) h in omega arith
+pub ten-small : (v n : ℕ) → v < 10 ^ n → n ≤ 10 → v < 10000000000
+ten-small v n l h = let m : 10 ^ n ≤ 10 ^ 10 = pow-le-pow-right (omega arith) h in omega arith
 
 module _ (s : List ℕ) (from : ℕ) where
   -- how many digits there are where n are passed, as the bytes left to look at give it

@@ -4,7 +4,7 @@ use mathlib.Core.Bool.{cond}
 use mathlib.Core.List.{List, [], _∷_, _++_}
 use mathlib.Core.Option.{Option, none, some}
 use lib.ListN.{length, replicate}
-use lib.Dec.{ltb, eqb}
+use lib.Dec.{ltb}
 use Rattle.medium.specs.Word.{blank}
 use Rattle.table.specs.declared.Table.{Table}
 use Rattle.archive.specs.Refusal.{firstOf, settle}

@@ -10,7 +10,7 @@ use lib.ListN.{length}
 use borrow.Author.Needs.{needs}
 use Rattle.placement.specs.Below.{nth}
 use Rattle.sheet.specs.Line.{isDigit, digitRun, valueOf}
-use Rattle.sheet.proofs.Reading.{digit, below-digits, above-digits, past-line, next-value, next-bound, ten-fit, runLeft, run-all, run-on, run-stops, too-long, no-digit, too-high, number-read}
+use Rattle.sheet.proofs.Reading.{digit, below-digits, above-digits, past-line, next-value, next-bound, ten-small, runLeft, run-all, run-on, run-stops, too-long, no-digit, too-high, number-read}
 use Rattle.sheet.proofs.read.number_at.Statement.{statement}
 use Rattle.sheet.proofs.read.number_at.Tie as tie
 
@@ -44,7 +44,7 @@ on : (c : tie.Else2 Inv-loop μ-loop) → let l = Q c in digitRun (S l) (F l) 11
 on c = let l = Q c in l .loop .inv .4 ∙ run-on (S l) (F l) (N l) (l .loop .inv .0) (digit (nth (S l) (F l + N l)) (omega arith) (omega arith))
 
 small : (l : tie.At-loop Inv-loop μ-loop) → Val l < 10000000000
-small l = ten-fit (Val l) (N l) (l .loop .inv .2) (l .loop .inv .0)
+small l = ten-small (Val l) (N l) (l .loop .inv .2) (l .loop .inv .0)
 
 stops : (l : tie.At-loop Inv-loop μ-loop) → isDigit (nth (S l) (F l + N l)) ≡ false → digitRun (S l) (F l) 11 ≡ N l
 stops l d = l .loop .inv .4 ∙ run-stops (S l) (F l) (N l) (l .loop .inv .0) d
