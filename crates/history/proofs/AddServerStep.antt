@@ -17,7 +17,7 @@ use Rattle.placement.proofs.Tests.{byBool}
 use Rattle.placement.proofs.Rules.{writeP-cong}
 use Rattle.medium.specs.Word.{blank}
 use Rattle.medium.specs.Entry.{serverAt, entryAt, bears, blankRun}
-use Rattle.medium.proofs.Places.{server-le, entry-in, entry-above}
+use Rattle.medium.proofs.Places.{server-le, entry-in, entry-above, server-next}
 use Rattle.medium.proofs.Entries.{bears-id, blank-run}
 use Rattle.table.specs.declared.Table.{Table}
 use Rattle.table.specs.Sound.{weightOf, usedOf, readP}
@@ -65,8 +65,8 @@ module _ {capacity count : ℕ} {greatest : ℕ → Fraction} {events : List Eve
 module _ {t : Table} {m : List ℕ} {L : Ledger} (A : Agree t m L) (weight : ℕ) where
   -- the new server's words are blank
   blank-server : serverAt (t .capacity) (suc (t .count)) ≤ length m → blankRun m (serverAt (t .capacity) (t .count)) (3 * t .capacity) ≡ true
-  unfolding serverAt
-  blank-server room = blank-run m (serverAt (t .capacity) (t .count)) (3 * t .capacity) (λ i l. A .holds .rest (serverAt (t .capacity) (t .count) + i) (omega arith) (omega arith))
+  blank-server room = blank-run m (serverAt (t .capacity) (t .count)) (3 * t .capacity)
+      (λ i l. A .holds .rest (serverAt (t .capacity) (t .count) + i) (omega arith) (omega (arith, server-next (t .capacity) (t .count))))
 
   same-rows : firstOf (addServerRows t m weight) ≡ firstOf (addServerRowsL L weight)
   unfolding firstOf addServerRows addServerRowsL

@@ -10,8 +10,8 @@ use lib.Dec.{leb}
 use borrow.Author.Tests.{leb-true, not-false}
 use Rattle.placement.proofs.Tests.{and-l, and-r}
 use Rattle.medium.specs.Word.{blank}
-use Rattle.medium.specs.Entry.{serverAt}
 use Rattle.table.specs.Upkeep.{empty}
+use Rattle.medium.proofs.Places.{server-zero}
 use Rattle.table.proofs.Soundness.{empty-arrays, empty-sound}
 use Rattle.archive.specs.Refusal.{firstOf}
 use Rattle.archive.specs.Calls.{startRows, startTable}
@@ -36,7 +36,7 @@ unfolding startRows
 started capacity z = not-false _ (passed 1 (not (leb 1 capacity && leb capacity 65536)) [] z .0)
 
 pub begin-agrees : (capacity n : ℕ) → firstOf (startRows capacity) ≡ 0 → Agrees (begin capacity n) (opening capacity n)
-unfolding begin startTable opening usedBy serverAt standing placeOf TopAt
+unfolding begin startTable opening usedBy standing placeOf TopAt
 begin-agrees capacity n z =
     let s = started capacity z in
     let low = leb-true 1 capacity (and-l (leb 1 capacity) (leb capacity 65536) s) in
@@ -51,7 +51,7 @@ begin-agrees capacity n z =
       readPs = λ k l. absurd (omega arith);
       words = length-replicate {A = ℕ} n blank;
       holds = record {
-        long = omega arith;
+        long = omega (arith, server-zero capacity);
         rest = λ a l i. getD-replicate n a blank 0 (rw length-replicate at i);
         free = λ k j q l u i b. absurd (omega arith);
         fits = λ k. omega arith;

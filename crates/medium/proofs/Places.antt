@@ -15,6 +15,11 @@ pub server-le : (capacity k n : ℕ) → k ≤ n → serverAt capacity k ≤ ser
 unfolding serverAt
 server-le capacity k n h = mul-le-mul-left (3 * capacity) h
 
+-- server 0 begins at the first word
+pub server-zero : (capacity : ℕ) → serverAt capacity 0 ≡ 0
+unfolding serverAt
+server-zero capacity = omega arith
+
 -- a server has three words for each entry
 pub server-next : (capacity k : ℕ) → serverAt capacity (suc k) ≡ serverAt capacity k + 3 * capacity
 unfolding serverAt
