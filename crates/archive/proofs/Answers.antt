@@ -27,6 +27,16 @@ number-not-zero NotFound e = omega arith
 number-not-zero ExceedsFree e = omega arith
 number-not-zero Corrupt e = omega arith
 
+-- what a check that is matched on says of the rows it stands for
+module _ (rows : List Row) {a : Check} (e : checkNumber a ≡ firstOf rows) where
+  pub check-refused : {r : Refusal} → a ≡ check.Refused r → numberOf r ≡ firstOf rows
+  unfolding checkNumber
+  check-refused f = sym (ap checkNumber f) ∙ e
+
+  pub check-accepted : a ≡ check.Accepted → firstOf rows ≡ 0
+  unfolding checkNumber
+  check-accepted f = sym e ∙ ap checkNumber f
+
 -- the tests refused
 module _ (rows : List Row) (r : Refusal) (e : numberOf r ≡ firstOf rows) where
   pub kept : {A : Type 0} (done lent : A) → lent ≡ settle rows done lent

@@ -1,12 +1,13 @@
 -- `archive::delete` meets its contract: what the tests say, and the marks of every live entry on every readable server.
-use mathlib.Core.Path.{_≡_, sym, ap, _∙_}
+use mathlib.Core.Path.{_≡_}
 use mathlib.Core.List.{List}
 use Prim.Native.Nat.{ℕ}
 use borrow.Author.Needs.{needs}
 use Rattle.table.specs.declared.Table.{Table}
 use Rattle.archive.specs.Refusal.{firstOf}
-use Rattle.archive.specs.Reply.{numberOf, checkNumber, replyOfDelete}
+use Rattle.archive.specs.Reply.{numberOf, replyOfDelete}
 use Rattle.archive.specs.Calls.{lookupRows}
+use Rattle.archive.proofs.Answers.{check-refused, check-accepted}
 use Rattle.archive.proofs.Accepted.{lookup-accepted}
 use Rattle.archive.proofs.Done.{delete-refused, deleted-none, deleted-done}
 use Rattle.archive.proofs.filing.delete.Statement.{statement}
@@ -29,12 +30,10 @@ abbrev M : tie.After-ready → List ℕ
 M c = S c .args .medium .now
 
 refused-here : (c : tie.After-check) → numberOf (c .check .given .0 .0) ≡ firstOf (lookupRows (T (c .before .before)) (M (c .before .before)) (S (c .before .before) .args .id))
-unfolding checkNumber
-refused-here c = sym (ap checkNumber (c .check .given .1)) ∙ c .before .before .ready .ensures
+refused-here c = check-refused (lookupRows (T (c .before .before)) (M (c .before .before)) (S (c .before .before) .args .id)) (c .before .before .ready .ensures) (c .check .given .1)
 
 accepted-here : (c : tie.After-enum-told) → firstOf (lookupRows (T (c .before .before)) (M (c .before .before)) (S (c .before .before) .args .id)) ≡ 0
-unfolding checkNumber
-accepted-here c = sym (c .before .before .ready .ensures) ∙ ap checkNumber (c .enum-told .given .1)
+accepted-here c = check-accepted (lookupRows (T (c .before .before)) (M (c .before .before)) (S (c .before .before) .args .id)) (c .before .before .ready .ensures) (c .enum-told .given .1)
 
 same-length : tie.Need-same-length
 same-length c = search needs

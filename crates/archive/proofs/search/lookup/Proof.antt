@@ -16,11 +16,11 @@ use Rattle.medium.proofs.Entries.{live-used}
 use Rattle.table.specs.declared.Table.{Table}
 use Rattle.table.specs.Sound.{usedOf}
 use Rattle.archive.specs.Refusal.{firstOf}
-use Rattle.archive.specs.Reply.{refused, found, numberOf, checkNumber, replyOfLookup}
+use Rattle.archive.specs.Reply.{refused, found, numberOf, replyOfLookup}
 use Rattle.archive.specs.Search.{searchFor}
 use Rattle.archive.specs.Calls.{lookupRows, lookupReply}
 use Rattle.archive.specs.Opened.{Met}
-use Rattle.archive.proofs.Answers.{reply-refused}
+use Rattle.archive.proofs.Answers.{check-refused, check-accepted, reply-refused}
 use Rattle.archive.proofs.Accepted.{Ready, lookup-accepted}
 use Rattle.archive.proofs.Searches.{met-some}
 use Rattle.archive.proofs.Done.{found-some, looked-none, looked-some}
@@ -44,12 +44,10 @@ abbrev M : tie.After-ready → List ℕ
 M c = S c .args .medium .now
 
 refused-here : (c : tie.After-check) → numberOf (c .check .given .0 .0) ≡ firstOf (lookupRows (T (c .before .before)) (M (c .before .before)) (S (c .before .before) .args .id))
-unfolding checkNumber
-refused-here c = sym (ap checkNumber (c .check .given .1)) ∙ c .before .before .ready .ensures
+refused-here c = check-refused (lookupRows (T (c .before .before)) (M (c .before .before)) (S (c .before .before) .args .id)) (c .before .before .ready .ensures) (c .check .given .1)
 
 accepted-here : (c : tie.After-enum-told) → firstOf (lookupRows (T (c .before .before)) (M (c .before .before)) (S (c .before .before) .args .id)) ≡ 0
-unfolding checkNumber
-accepted-here c = sym (c .before .before .ready .ensures) ∙ ap checkNumber (c .enum-told .given .1)
+accepted-here c = check-accepted (lookupRows (T (c .before .before)) (M (c .before .before)) (S (c .before .before) .args .id)) (c .before .before .ready .ensures) (c .enum-told .given .1)
 
 returns : tie.Need-returns
 unfolding replyOfLookup lookupReply

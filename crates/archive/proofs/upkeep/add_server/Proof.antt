@@ -1,14 +1,14 @@
 -- `archive::add_server` meets its contract: what the tests say, and the table with a server more.
-use mathlib.Core.Path.{_≡_, sym, ap, _∙_}
+use mathlib.Core.Path.{_≡_, sym, _∙_}
 use mathlib.Core.List.{List}
 use borrow.Author.Needs.{needs}
 use Rattle.table.specs.declared.Table.{Table}
 use Rattle.archive.specs.Refusal.{Row, firstOf}
-use Rattle.archive.specs.Reply.{numberOf, checkNumber, replyOfServer}
+use Rattle.archive.specs.Reply.{numberOf, replyOfServer}
 use Rattle.archive.specs.Calls.{addServerRows, addServerReply, addServerTable}
 use Rattle.archive.proofs.Refusals.{settle-yes}
 use Rattle.archive.proofs.Accepted.{addServer-accepted}
-use Rattle.archive.proofs.Answers.{kept, reply-refused, reply-done}
+use Rattle.archive.proofs.Answers.{check-refused, check-accepted, kept, reply-refused, reply-done}
 use Rattle.archive.proofs.upkeep.add_server.Statement.{statement}
 use Rattle.archive.proofs.upkeep.add_server.Tie as tie
 
@@ -29,12 +29,10 @@ abbrev rows : tie.After-add-server → List Row
 rows c = let a = c .before .before .before .before .before .before .before .args in addServerRows (a .t1) (a .medium .now) (a .weight)
 
 refused-here : (c : tie.After-check) → numberOf (c .check .given .0 .0) ≡ firstOf (rows (c .before .before))
-unfolding checkNumber
-refused-here c = sym (ap checkNumber (c .check .given .1)) ∙ c .before .before .add-server .ensures
+refused-here c = check-refused (rows (c .before .before)) (c .before .before .add-server .ensures) (c .check .given .1)
 
 accepted-here : (c : tie.After-enum-told) → firstOf (rows (c .before .before)) ≡ 0
-unfolding checkNumber
-accepted-here c = sym (c .before .before .add-server .ensures) ∙ ap checkNumber (c .enum-told .given .1)
+accepted-here c = check-accepted (rows (c .before .before)) (c .before .before .add-server .ensures) (c .enum-told .given .1)
 
 with-server-requires : tie.Need-with-server-requires
 with-server-requires c κs = let s = addServer-accepted _ _ _ (accepted-here c) in (s .isSound, (s .few, s .light))

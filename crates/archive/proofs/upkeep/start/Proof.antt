@@ -1,11 +1,11 @@
 -- `archive::start` meets its contract: what the test says, and the table that goes with it.
-use mathlib.Core.Path.{_≡_, sym, ap, _∙_}
+use mathlib.Core.Path.{_≡_, sym, _∙_}
 use borrow.Author.Needs.{needs}
 use Rattle.archive.specs.Refusal.{firstOf}
-use Rattle.archive.specs.Reply.{numberOf, checkNumber}
+use Rattle.archive.specs.Reply.{numberOf}
 use Rattle.archive.specs.Calls.{startRows, startReply, startTable}
 use Rattle.archive.proofs.Refusals.{settle-yes}
-use Rattle.archive.proofs.Answers.{kept, check-reply}
+use Rattle.archive.proofs.Answers.{check-refused, check-accepted, kept, check-reply}
 use Rattle.archive.proofs.upkeep.start.Statement.{statement}
 use Rattle.archive.proofs.upkeep.start.Tie as tie
 
@@ -25,12 +25,10 @@ empty-requires-2 : tie.Need-empty-requires-2
 empty-requires-2 c κs = search needs
 
 refused-here : (c : tie.After-enum-told) → numberOf (c .enum-told .given .0 .0) ≡ firstOf (startRows (c .before .before .before .args .capacity))
-unfolding checkNumber
-refused-here c = sym (ap checkNumber (c .enum-told .given .1)) ∙ c .before .before .start .ensures
+refused-here c = check-refused (startRows (c .before .before .before .args .capacity)) (c .before .before .start .ensures) (c .enum-told .given .1)
 
 accepted-here : (c : tie.After-enum-told2) → firstOf (startRows (c .before .before .before .args .capacity)) ≡ 0
-unfolding checkNumber
-accepted-here c = sym (c .before .before .start .ensures) ∙ ap checkNumber (c .enum-told2 .given .1)
+accepted-here c = check-accepted (startRows (c .before .before .before .args .capacity)) (c .before .before .start .ensures) (c .enum-told2 .given .1)
 
 returns : tie.Need-returns
 unfolding startReply startTable
