@@ -3,7 +3,7 @@
 use Prim.Native.Nat.{ℕ, zero, suc, _+_, _-_, _*_, _≤_, _<_}
 use mathlib.Core.List.{List, [], _∷_, _++_, List·Memᴰ, List·Memᴰ·head, List·Memᴰ·not-nil, List·Memᴰ·append-cases, List·Memᴰ·eq-of-singleton, Memᴰ·append-left, Memᴰ·append-right}
 use mathlib.Core.Logic.{_⊎_, inl, inr}
-use lib.ListN.{length, length-set}
+use lib.ListN.{length, set, length-set}
 use lib.Seq.{getD-set-same, getD-set-other}
 use mathlib.Core.Path.{_≡_, refl, sym, ap, _∙_, subst}
 use mathlib.Core.Bool.{Bool, true, false, cond}
@@ -41,6 +41,11 @@ highest-is p (suc n) i l q = byBool (p n)
           (λ d. rw (eqb-true j n d) e)
           (λ d. h .noneAbove j a (omega (arith, eqb-false j n d)));
     }))
+
+pub highest-le : (p : ℕ → Bool) (n : ℕ) → orZero (highest p n) ≤ n
+unfolding highest orZero
+highest-le p zero = omega arith
+highest-le p (suc n) = byBool (p n) (λ e. rw e (omega arith)) (λ e. rw e (omega (arith, highest-le p n)))
 
 -- there is only one such number
 pub highest-only : (p : ℕ → Bool) (n j k : ℕ) → Highest p n j → Highest p n k → j ≡ k
@@ -164,3 +169,8 @@ setBelow-at f zero xs h k l = absurd (omega arith)
 setBelow-at f (suc n) xs h k l = byBool (eqb k n)
     (λ d. rw (eqb-true k n d) (getD-set-same (setBelow f n xs) n (f n) 0 (rw length-setBelow h)))
     (λ d. getD-set-other (setBelow f n xs) n k (f n) 0 (eqb-false k n d) ∙ setBelow-at f n xs (omega arith) k (omega (arith, eqb-false k n d)))
+
+-- one number more, as a loop counts
+pub setBelow-more : (f : ℕ → ℕ) (n : ℕ) (xs ys : List ℕ) (k : ℕ) → ys ≡ setBelow f n xs → k ≡ f n → set ys n k ≡ setBelow f (n + 1) xs
+unfolding setBelow
+setBelow-more f n xs ys k e d = rw (add-one, e, d)

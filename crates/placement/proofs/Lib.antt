@@ -4,3 +4,4 @@ pub mod Product
 pub mod Draws
 pub mod Fractions
 pub mod Rules
+mod Picking

@@ -3,3 +3,4 @@ pub mod Draw
 pub mod Fraction
 pub mod Rule
 pub mod KnownDraws
+pub mod Picks
