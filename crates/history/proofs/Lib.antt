@@ -19,3 +19,4 @@ pub mod Unaltered
 pub mod Theorem
 pub mod LiveRule
 mod Replaying
+pub mod Lent

@@ -1,12 +1,11 @@
 -- An encoded list of calls, run call by call: one call, what holds once i calls are run, and where their replies stand.
 -- Assumes nothing.
-use Prim.Native.Nat.{ℕ, zero, suc, _+_, _*_, _/_, _≤_, _<_, min}
+use Prim.Native.Nat.{ℕ, zero, suc, _+_, _*_, _≤_, _<_}
 use mathlib.Core.Path.{_≡_, refl, sym, ap, ap₂, _∙_}
 use mathlib.Core.Logic.{_≢_}
 use mathlib.Core.List.{List, [], _∷_}
 use mathlib.Core.Option.{Option, none, some}
 use native.Mathlib.Numerals.{add-one}
-use native.Mathlib.Nat.{min-le-left, min-le-right, mul-div-le}
 use native.Mathlib.Omega.{arith}
 use lib.ListN.{length, set, replicate, length-set, length-replicate, getD-replicate}
 use lib.Seq.{getD-set-same, getD-set-other, ext-getD}
@@ -29,7 +28,7 @@ use Rattle.archive.proofs.Small.{Small, addServer-small, reweight-small, write-
 use Rattle.history.specs.Call.{Call, addServer, reweight, write, delete, lookup, compared}
 use Rattle.history.specs.Machine.{State, reply, next, after, begin}
 use Rattle.history.specs.Ledger.{opening, ledgerAfter}
-use Rattle.history.specs.Replay.{callOf, callAt, appended, callsBelow, replyTo, nextBy, ledgerReplyTo, withReply, withReplies, runs, started, replyAt, ledgerReplyAt, LedgerWords}
+use Rattle.history.specs.Replay.{callOf, callAt, appended, callsBelow, replyTo, nextBy, ledgerReplyTo, withReply, withReplies, roomFor, runs, started, replyAt, ledgerReplyAt, LedgerWords}
 use Rattle.history.proofs.Unaltered.{after-append}
 use Rattle.history.proofs.Run.{begin-agrees, step, run}
 
@@ -159,32 +158,19 @@ module _ (capacity : ℕ) (z : firstOf (startRows capacity) ≡ 0) (m : List ℕ
       let r = run calls (begin capacity (length m)) (opening capacity (length m)) (begin-agrees capacity (length m) z) in
       step _ _ (r .agrees) c .alike
 
-  alike-at : (calls : List ℕ) (i : ℕ) → compared (replyAt capacity m calls i) ≡ ledgerReplyAt capacity (length m) calls i
+  alike-at : (calls : List ℕ) (i : ℕ) → compared (replyAt (started capacity m) calls i) ≡ ledgerReplyAt capacity (length m) calls i
   unfolding replyAt ledgerReplyAt begin
   alike-at calls i =
       ap (λ (w : List ℕ). compared (replyTo (after (started capacity w) (callsBelow calls i)) (callAt calls i))) all-blank
       ∙ ledger-alike (callsBelow calls i) (callAt calls i)
 
 ledger-words : (capacity : ℕ) → firstOf (startRows capacity) ≡ 0 → (m calls words : List ℕ) (n : ℕ) → 5 * n ≤ length words
-    → LedgerWords capacity m calls n (withReplies (replyAt capacity m calls) n words)
+    → LedgerWords capacity m calls n (withReplies (replyAt (started capacity m) calls) n words)
 unfolding compared
 ledger-words capacity z m calls words n fits = record {
   alike = λ b i l.
-      let s = stored-all (replyAt capacity m calls) words n fits i l in
+      let s = stored-all (replyAt (started capacity m) calls) words n fits i l in
       rw (s .refusal, s .server, s .value, s .opened) (alike-at capacity z m b calls i);
-}
-
--- how many calls both slices have room for
-pub record Room (calls words : List ℕ) (n : ℕ) : Type 0 where
-  pub number : n ≡ min (length calls / 3) (length words / 5)
-  pub callsRoom : 3 * n ≤ length calls
-  pub repliesRoom : 5 * n ≤ length words
-
-pub room : (calls words : List ℕ) (n : ℕ) → n ≡ min (length calls / 3) (length words / 5) → Room calls words n
-room calls words n e = record {
-  number = e;
-  callsRoom = omega (arith, min-le-left (length calls / 3) (length words / 5), mul-div-le (length calls) 3);
-  repliesRoom = omega (arith, min-le-right (length calls / 3) (length words / 5), mul-div-le (length words) 5);
 }
 
 -- whether start accepted, by its answer
@@ -201,54 +187,59 @@ unfolding replyOfCheck
 start-refused capacity c x e f z = number-not-zero x (ap (λ (r : Reply). r .refusal) (sym (ap replyOfCheck e) ∙ f) ∙ start-number capacity ∙ z)
 
 -- once i calls are run
-pub record Replayed (capacity : ℕ) (m calls words : List ℕ) (i : ℕ) (table : Table) (medium replies : List ℕ) : Type 0 where
-  pub state : after (started capacity m) (callsBelow calls i) ≡ record { table = table; medium = medium }
-  pub stored : replies ≡ withReplies (replyAt capacity m calls) i words
-  pub sameMedium : length medium ≡ length m
+pub record Replayed (S : State) (calls words : List ℕ) (i : ℕ) (table : Table) (medium replies : List ℕ) : Type 0 where
+  pub state : record { table = table; medium = medium } ≡ after S (callsBelow calls i)
+  pub stored : replies ≡ withReplies (replyAt S calls) i words
+  pub sameMedium : length medium ≡ length (S .medium)
   pub sameReplies : length replies ≡ length words
+
+module _ (S : State) (calls words : List ℕ) where
+  pub none-run : Replayed S calls words 0 (S .table) (S .medium) words
+  unfolding after callsBelow withReplies
+  none-run = record { state = refl; stored = refl; sameMedium = refl; sameReplies = refl }
+
+  pub one-run : (i : ℕ) (table table′ : Table) (medium medium′ replies replies′ : List ℕ) (r : Reply)
+      → Replayed S calls words i table medium replies
+      → Called (record { table = table; medium = medium }) (callAt calls i) r table′ medium′
+      → length medium′ ≡ length medium → replies′ ≡ withReply replies i r
+      → Replayed S calls words (i + 1) table′ medium′ replies′
+  unfolding replyAt
+  one-run i table table′ medium medium′ replies replies′ r d c l e = record {
+    state =
+        ap₂ (λ (t : Table) (w : List ℕ). record { table = t; medium = w }) (c .1 .0) (c .1 .1)
+        ∙ ap (λ (T : State). nextBy T (callAt calls i)) (d .state)
+        ∙ sym (after-more S calls i);
+    stored =
+        e
+        ∙ ap₂ (λ (w : List ℕ) (x : Reply). withReply w i x) (d .stored) (c .0 ∙ ap (λ (T : State). replyTo T (callAt calls i)) (d .state))
+        ∙ sym (replies-more (replyAt S calls) i words);
+    sameMedium = l ∙ d .sameMedium;
+    sameReplies = ap length e ∙ length-withReply replies i r ∙ d .sameReplies;
+  }
 
 -- what `replay` ensures where it answers n
 abbrev pub Done : ℕ → List ℕ → List ℕ → List ℕ → ℕ → List ℕ → List ℕ → Type 0
 Done capacity m calls words n medium replies =
     (n ≡ runs capacity calls words)
     × ((medium ≡ after (started capacity m) (callsBelow calls n) .medium)
-    × ((replies ≡ withReplies (replyAt capacity m calls) n words)
+    × ((replies ≡ withReplies (replyAt (started capacity m) calls) n words)
     × LedgerWords capacity m calls n replies))
 
 module _ (capacity : ℕ) (m calls words : List ℕ) where
-  pub none-run : (table : Table) → table ≡ startTable capacity → Replayed capacity m calls words 0 table m words
-  unfolding after callsBelow withReplies
-  none-run table e = record { state = ap (λ (t : Table). record { table = t; medium = m }) (sym e); stored = refl; sameMedium = refl; sameReplies = refl }
-
-  pub one-run : (i : ℕ) (table table′ : Table) (medium medium′ replies replies′ : List ℕ) (r : Reply)
-      → Replayed capacity m calls words i table medium replies
-      → Called (record { table = table; medium = medium }) (callAt calls i) r table′ medium′
-      → length medium′ ≡ length medium → replies′ ≡ withReply replies i r
-      → Replayed capacity m calls words (i + 1) table′ medium′ replies′
-  unfolding replyAt
-  one-run i table table′ medium medium′ replies replies′ r d c l e = record {
-    state =
-        after-more (started capacity m) calls i
-        ∙ ap (λ (S : State). nextBy S (callAt calls i)) (d .state)
-        ∙ ap₂ (λ (t : Table) (w : List ℕ). record { table = t; medium = w }) (sym (c .1 .0)) (sym (c .1 .1));
-    stored =
-        e
-        ∙ ap₂ (λ (w : List ℕ) (x : Reply). withReply w i x) (d .stored) (c .0 ∙ ap (λ (S : State). replyTo S (callAt calls i)) (sym (d .state)))
-        ∙ sym (replies-more (replyAt capacity m calls) i words);
-    sameMedium = l ∙ d .sameMedium;
-    sameReplies = ap length e ∙ length-withReply replies i r ∙ d .sameReplies;
-  }
-
   -- none, from a start that was refused
   pub refused-run : firstOf (startRows capacity) ≢ 0 → Done capacity m calls words 0 m words
   unfolding runs after callsBelow withReplies
   refused-run f = (sym (settle-no (startRows capacity) _ 0 f), (refl, (refl, record { alike = λ b i l. absurd (omega arith) })))
 
   -- all of them, from a start that was accepted
-  pub all-run : (n : ℕ) (table : Table) (medium replies : List ℕ) → firstOf (startRows capacity) ≡ 0 → Room calls words n
-      → Replayed capacity m calls words n table medium replies → Done capacity m calls words n medium replies
+  pub all-run : (n : ℕ) (begun table : Table) (medium replies : List ℕ) → firstOf (startRows capacity) ≡ 0 → n ≡ roomFor calls words
+      → begun ≡ startTable capacity
+      → record { table = table; medium = medium } ≡ after (record { table = begun; medium = m }) (callsBelow calls n)
+      → replies ≡ withReplies (replyAt (record { table = begun; medium = m }) calls) n words
+      → Done capacity m calls words n medium replies
   unfolding runs
-  all-run n table medium replies z o d = (
-    o .number ∙ sym (settle-yes (startRows capacity) _ 0 z),
-    (ap (λ (S : State). S .medium) (sym (d .state)), (d .stored, rw (d .stored) (ledger-words capacity z m calls words n (o .repliesRoom)))),
-  )
+  all-run n begun table medium replies z o b d e =
+      let r : replies ≡ withReplies (replyAt (started capacity m) calls) n words = rw b at e in (
+        o ∙ sym (settle-yes (startRows capacity) _ 0 z),
+        (ap (λ (S : State). S .medium) (rw b at d), (r, rw r (ledger-words capacity z m calls words n (omega arith)))),
+      )

@@ -68,16 +68,21 @@ unfoldable pub withReplies : (ℕ → Reply) → ℕ → List ℕ → List ℕ
 withReplies f zero words = words
 withReplies f (suc n) words = withReply (withReplies f n words) n (f n)
 
--- how many calls are run: as many as both slices have room for, and none where start refuses the capacity
-unfoldable pub runs : ℕ → List ℕ → List ℕ → ℕ
-runs capacity calls replies = settle (startRows capacity) (min (length calls / 3) (length replies / 5)) 0
+-- as many calls as both slices have room for
+abbrev pub roomFor : List ℕ → List ℕ → ℕ
+roomFor calls replies = min (length calls / 3) (length replies / 5)
 
--- a started table over a lent medium, and the reply of the archive, and of the ledger, to call i
+-- the reply of the archive to call i of a list run from a state
+unfoldable pub replyAt : State → List ℕ → ℕ → Reply
+replyAt S calls i = replyTo (after S (callsBelow calls i)) (callAt calls i)
+
+-- how many calls are run on a started table: none where start refuses the capacity
+unfoldable pub runs : ℕ → List ℕ → List ℕ → ℕ
+runs capacity calls replies = settle (startRows capacity) (roomFor calls replies) 0
+
+-- a started table over a lent medium, and the ledger's reply to call i
 abbrev pub started : ℕ → List ℕ → State
 started capacity m = record { table = startTable capacity; medium = m }
-
-unfoldable pub replyAt : ℕ → List ℕ → List ℕ → ℕ → Reply
-replyAt capacity m calls i = replyTo (after (started capacity m) (callsBelow calls i)) (callAt calls i)
 
 unfoldable pub ledgerReplyAt : ℕ → ℕ → List ℕ → ℕ → Compared
 ledgerReplyAt capacity n calls i = ledgerReplyTo (ledgerAfter (opening capacity n) (callsBelow calls i)) (callAt calls i)
