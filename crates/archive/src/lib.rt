@@ -10,6 +10,7 @@ pub use filing::write;
 pub use numbers::delete_reply;
 pub use numbers::lookup_reply;
 pub use numbers::server_reply;
+pub use numbers::start_reply;
 pub use numbers::write_reply;
 pub use search::lookup;
 use table::Table;

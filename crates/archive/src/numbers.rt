@@ -1,6 +1,7 @@
 // Answers in document 01's numbers.
 ghost use mathlib.Core.Path.{_≡_};
-ghost use Rattle.archive.specs.Reply.{refused, onServer, numberOf, replyOfServer, replyOfWrite, replyOfDelete, replyOfLookup};
+ghost use Rattle.archive.specs.Reply.{refused, onServer, numberOf, replyOfCheck, replyOfServer, replyOfWrite, replyOfDelete, replyOfLookup};
+use crate::Check;
 use crate::DeleteAnswer;
 use crate::LookupAnswer;
 use crate::Refusal;
@@ -46,6 +47,15 @@ fn server_and_count(server: usize, invalidated: usize) -> Reply
         value: 0,
         opened: 0,
         invalidated,
+    }
+}
+
+pub fn start_reply(answer: Check) -> Reply
+    ensures { λ r. ⌜ r ≡ replyOfCheck answer ⌝ }
+{
+    match answer {
+        Check::Accepted => server_and_count(0, 0),
+        Check::Refused(refusal) => refusal_reply(refusal, 0),
     }
 }
 
