@@ -18,5 +18,5 @@ pub mod Counting
 pub mod Unaltered
 pub mod Theorem
 pub mod LiveRule
-mod Replaying
+pub mod Replaying
 pub mod Lent

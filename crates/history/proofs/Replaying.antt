@@ -174,7 +174,7 @@ ledger-words capacity z m calls words n fits = record {
 }
 
 -- whether start accepted, by its answer
-start-number : (capacity : ℕ) → startReply capacity .refusal ≡ firstOf (startRows capacity)
+pub start-number : (capacity : ℕ) → startReply capacity .refusal ≡ firstOf (startRows capacity)
 unfolding startReply replyBy settle
 start-number capacity = byBool (eqb (firstOf (startRows capacity)) 0) (λ e. rw e (sym (eqb-true (firstOf (startRows capacity)) 0 e))) (λ e. rw e)
 

@@ -48,7 +48,7 @@ fn from_written(written: Written) -> Ran
 }
 
 // Runs one encoded call.
-fn run_call(table: Table, medium: &mut [u32], number: u32, first: u32, second: u32) -> Ran
+pub fn run_call(table: Table, medium: &mut [u32], number: u32, first: u32, second: u32) -> Ran
     ensures reply { λ r. ⌜ r .reply ≡ replyTo (record { table = table; medium = now (medium .entry) }) (callOf number first second) ⌝ }
     ensures table { λ r. ⌜ r .table ≡ nextBy (record { table = table; medium = now (medium .entry) }) (callOf number first second) .table ⌝ }
     ensures medium { λ _. ⌜ now (medium .exit) ≡ nextBy (record { table = table; medium = now (medium .entry) }) (callOf number first second) .medium ⌝ }
