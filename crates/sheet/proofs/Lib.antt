@@ -1,2 +1,4 @@
 mod Reading
 mod Printing
+mod Running
+pub mod Sheets

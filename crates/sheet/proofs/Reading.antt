@@ -1,18 +1,24 @@
 -- Reading step by step: what is left of a run of digits and of a line, and the answers of the number's reader.
 -- Assumes nothing.
 use Prim.Native.Nat.{ℕ, suc, _+_, _-_, _*_, _^_, _≤_, _<_}
-use mathlib.Core.Path.{_≡_, refl, ap, _∙_}
-use mathlib.Core.Bool.{true, false}
+use mathlib.Core.Path.{_≡_, refl, sym, ap, _∙_}
+use mathlib.Core.Bool.{Bool, true, false, cond}
 use mathlib.Core.List.{List}
+use mathlib.Core.Option.{Option, none, some}
+use mathlib.Core.Logic.{_≢_}
 use native.Mathlib.Nat.{pow-le-pow-right}
 use native.Mathlib.Numerals.{add-one}
 use native.Mathlib.Omega.{arith}
 use lib.ListN.{length, List·getD-eq-default}
-use borrow.Author.Tests.{le-leb, lt-leb, lt-ltb, le-ltb, eq-eqb, ne-eqb}
+use lib.Dec.{ltb, eqb}
+use borrow.Author.Tests.{le-leb, lt-leb, lt-ltb, le-ltb, ltb-true, ltb-false, eq-eqb, ne-eqb}
 use Rattle.placement.specs.Below.{nth}
+use Rattle.placement.proofs.Tests.{byBool}
 use Rattle.sheet.specs.declared.Parsed.{Parsed}
 use Rattle.sheet.specs.declared.Parsed.the-variants as parsed
-use Rattle.sheet.specs.Line.{isDigit, digitRun, valueOf, numberAt, parsedOf, spaced, endBelow, endOf}
+use Rattle.sheet.specs.declared.Line.{Line}
+use Rattle.sheet.specs.declared.Line.the-variants as line
+use Rattle.sheet.specs.Line.{isDigit, digitRun, valueOf, Number, numberAt, parsedOf, spaced, lineBy, hasTwo, last, first, lineOf, endBelow, endOf}
 
 -- the tests of a byte
 pub digit : (b : ℕ) → 48 ≤ b → b ≤ 57 → isDigit b ≡ true
@@ -97,6 +103,57 @@ no-space s at n = rw (ne-eqb (nth s at) 32 n)
 pub after-space : (s : List ℕ) (at : ℕ) (r : Parsed) → nth s at ≡ 32 → r ≡ parsedOf (numberAt s (at + 1)) → r ≡ parsedOf (spaced s at)
 unfolding spaced
 after-space s at r e f = rw (eq-eqb (nth s at) 32 e) f
+
+-- what a number's reader answered says what stands there
+pub nothing-read : (o : Option Number) (r : Parsed) → r ≡ parsedOf o → r ≡ parsed.Nothing → o ≡ none
+unfolding parsedOf
+nothing-read none r e f = refl
+nothing-read (some x) r e f = cc
+
+pub number-there : (o : Option Number) (r : Parsed) → r ≡ parsedOf o → (v n : ℕ) → r ≡ parsed.Number v n → o ≡ some (record { value = v; next = n })
+unfolding parsedOf
+number-there none r e v n f = cc
+number-there (some x) r e v n f = let p : x .value ≡ v = cc in let q : x .next ≡ n = cc in rw (← p, ← q)
+
+-- a number after a space is inside the line
+pub inside-line : (s : List ℕ) (at : ℕ) (x : Number) → spaced s at ≡ some x → at < length s
+inside-line s at x e = byBool (ltb at (length s))
+    (λ t. ltb-true at (length s) t)
+    (λ f.
+    let n : spaced s at ≡ none = nothing-read (spaced s at) parsed.Nothing (past-end s at (ltb-false at (length s) f)) refl in
+    let z : _≡_ {A = ℕ} 0 1 = cc in
+    omega arith)
+
+-- the line, once its numbers are read
+pub no-first : (s : List ℕ) → spaced s 1 ≡ none → lineOf s ≡ line.Unreadable
+unfolding lineOf first
+no-first s e = rw e
+
+module _ (s : List ℕ) (a n : ℕ) (e : spaced s 1 ≡ some (record { value = a; next = n })) where
+  -- nothing may stand after the last number
+  pub wholeOf : ℕ → ℕ → Line
+  wholeOf b end = cond (eqb end (length s)) (lineBy (nth s 0) a b) line.Unreadable
+
+  module _ (two : Bool) (h : two ≡ hasTwo (nth s 0)) where
+    pub no-second : two ≡ true → spaced s n ≡ none → lineOf s ≡ line.Unreadable
+    unfolding lineOf first last
+    no-second t f = rw (e, ← h, t, f)
+
+    pub with-second : two ≡ true → (b end v next : ℕ) → spaced s n ≡ some (record { value = v; next = next }) → b ≡ v → end ≡ next → lineOf s ≡ wholeOf b end
+    unfolding lineOf first last wholeOf
+    with-second t b end v next f p q = rw (e, ← h, t, f, p, q)
+
+    pub without-second : two ≡ false → (b end : ℕ) → b ≡ 0 → end ≡ n → lineOf s ≡ wholeOf b end
+    unfolding lineOf first last wholeOf
+    without-second t b end p q = rw (e, ← h, t, p, q)
+
+  pub more-after : (b end : ℕ) → lineOf s ≡ wholeOf b end → end ≢ length s → lineOf s ≡ line.Unreadable
+  unfolding wholeOf
+  more-after b end w d = w ∙ rw (ne-eqb end (length s) d)
+
+  pub none-after : (b end : ℕ) → lineOf s ≡ wholeOf b end → end ≡ length s → lineOf s ≡ lineBy (nth s 0) a b
+  unfolding wholeOf
+  none-after b end w d = w ∙ rw (eq-eqb end (length s) d)
 
 -- where a line ends that has no LF before a position, as the bytes left to look at give it
 module _ (s : List ℕ) where

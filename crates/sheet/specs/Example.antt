@@ -14,11 +14,12 @@ use Rattle.table.specs.Upkeep.{withServer, withWeight, withEntry}
 use Rattle.archive.specs.Refusal.{firstOf, settle}
 use Rattle.archive.specs.Reply.{replyBy}
 use Rattle.archive.specs.Search.{lastLive, opening, searchBelow, searchFor}
-use Rattle.archive.specs.Calls.{startRows, startTable, addServerRows, addServerReply, addServerTable, reweightRows, reweightReply, reweightTable, short, target, writeRows, writeMarks, writeBurns, writeReply, writeTable, writeMedium, isMet, deleteRows, deleteMarks, deleteReply, deleteMedium, lookupRows, metReply, lookupReply}
+use Rattle.archive.specs.Calls.{startRows, startReply, startTable, addServerRows, addServerReply, addServerTable, reweightRows, reweightReply, reweightTable, short, target, writeRows, writeMarks, writeBurns, writeReply, writeTable, writeMedium, isMet, deleteRows, deleteMarks, deleteReply, deleteMedium, lookupRows, metReply, lookupReply}
 use Rattle.history.specs.Machine.{reply, next}
-use Rattle.sheet.specs.Line.{isDigit, digitRun, valueOf, numberAt, spaced, last, one, first, two, lineOf, longer, linesOf}
+use Rattle.history.specs.Replay.{callOf, replyTo, nextBy}
+use Rattle.sheet.specs.Line.{isDigit, digitRun, valueOf, numberAt, spaced, lineBy, hasTwo, last, first, lineOf, longer, linesOf}
 use Rattle.sheet.specs.Print.{digits, decimal, printed, question, answered}
-use Rattle.sheet.specs.Sheet.{started, called, run, outputOf}
+use Rattle.sheet.specs.Sheet.{started, called, lineRun, run, outputOf}
 
 -- a line each, LF at its end
 pub input : List ℕ
@@ -52,5 +53,5 @@ output =
     []
 
 pub example : outputOf input (replicate 36 4294967295) .bytes ≡ output
-unfolding input output allBelow highest orZero upward countBelow total setBelow stepOf nonzero seedOf xorLeft xorRight roundOf drawOf exceeds atLeast raise shareOf writeP takes pick writeServer readable serverAt entryAt bears live blankRun burnAll marksOn marksOver invalidations readSound serverSound sound withServer withWeight withEntry firstOf settle replyBy lastLive opening searchBelow searchFor startRows startTable addServerRows addServerReply addServerTable reweightRows reweightReply reweightTable short target writeRows writeMarks writeBurns writeReply writeTable writeMedium isMet deleteRows deleteMarks deleteReply deleteMedium lookupRows metReply lookupReply reply next isDigit digitRun valueOf numberAt spaced last one first two lineOf longer linesOf digits decimal printed question answered started called run outputOf
+unfolding input output allBelow highest orZero upward countBelow total setBelow stepOf nonzero seedOf xorLeft xorRight roundOf drawOf exceeds atLeast raise shareOf writeP takes pick writeServer readable serverAt entryAt bears live blankRun burnAll marksOn marksOver invalidations readSound serverSound sound withServer withWeight withEntry firstOf settle replyBy lastLive opening searchBelow searchFor startRows startReply startTable addServerRows addServerReply addServerTable reweightRows reweightReply reweightTable short target writeRows writeMarks writeBurns writeReply writeTable writeMedium isMet deleteRows deleteMarks deleteReply deleteMedium lookupRows metReply lookupReply reply next callOf replyTo nextBy isDigit digitRun valueOf numberAt spaced lineBy hasTwo last first lineOf longer linesOf digits decimal printed question answered started called lineRun run outputOf
 example = refl

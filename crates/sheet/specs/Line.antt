@@ -1,7 +1,7 @@
 -- Reading a line (document 01, "The program"): a letter and numbers of 1 to 10 digits below 2^32, one space between.
 -- A line is a list of bytes without its LF.
 use Prim.Native.Nat.{ℕ, zero, suc, _+_, _-_, _*_}
-use mathlib.Core.Bool.{Bool, cond, _&&_}
+use mathlib.Core.Bool.{Bool, cond, _&&_, _||_}
 use mathlib.Core.List.{List, [], _∷_}
 use mathlib.Core.Option.{Option, none, some}
 use lib.ListN.{length}
@@ -9,13 +9,8 @@ use lib.Dec.{leb, ltb, eqb}
 use Rattle.placement.specs.Below.{nth}
 use Rattle.sheet.specs.declared.Parsed.{Parsed}
 use Rattle.sheet.specs.declared.Parsed.the-variants as parsed
-use Rattle.history.specs.Call.{Call, addServer, reweight, write, delete, lookup}
-
--- S E, another call, or what can't be read so
-pub data Line : Type 0 where
-  start : ℕ → Line
-  call : Call → Line
-  unreadable : Line
+use Rattle.sheet.specs.declared.Line.{Line}
+use Rattle.sheet.specs.declared.Line.the-variants as line
 
 unfoldable pub isDigit : ℕ → Bool
 isDigit b = leb 48 b && leb b 57
@@ -50,32 +45,35 @@ parsedOf (some x) = parsed.Number (x .value) (x .next)
 unfoldable pub spaced : List ℕ → ℕ → Option Number
 spaced s at = cond (eqb (nth s at) 32) (numberAt s (at + 1)) none
 
+-- the line of a letter and its numbers: S starts; F, G, W, D, L are calls 1 to 5, as history's callOf has them
+unfoldable pub lineBy : ℕ → ℕ → ℕ → Line
+lineBy letter a b =
+    cond (eqb letter 83) (line.Start a)
+    (cond (eqb letter 70) (line.Call 1 a b)
+    (cond (eqb letter 71) (line.Call 2 a b)
+    (cond (eqb letter 87) (line.Call 3 a b)
+    (cond (eqb letter 68) (line.Call 4 a b)
+    (cond (eqb letter 76) (line.Call 5 a b)
+    line.Unreadable)))))
+
+-- G and W have two numbers, the others one
+unfoldable pub hasTwo : ℕ → Bool
+hasTwo letter = eqb letter 71 || eqb letter 87
+
 -- the last number of a line, with nothing after it
 unfoldable pub last : List ℕ → (ℕ → Line) → Option Number → Line
-last s f none = unreadable
-last s f (some x) = cond (eqb (x .next) (length s)) (f (x .value)) unreadable
+last s f none = line.Unreadable
+last s f (some x) = cond (eqb (x .next) (length s)) (f (x .value)) line.Unreadable
 
--- a line of one number after its letter, and of two
-unfoldable pub one : List ℕ → (ℕ → Line) → Line
-one s f = last s f (spaced s 1)
+-- the first number; the second, if there is one, begins where it ends
+unfoldable pub first : List ℕ → Option Number → Line
+first s none = line.Unreadable
+first s (some x) =
+    cond (hasTwo (nth s 0)) (last s (lineBy (nth s 0) (x .value)) (spaced s (x .next)))
+    (last s (λ a. lineBy (nth s 0) a 0) (some x))
 
-unfoldable pub first : List ℕ → (ℕ → ℕ → Line) → Option Number → Line
-first s f none = unreadable
-first s f (some x) = last s (f (x .value)) (spaced s (x .next))
-
-unfoldable pub two : List ℕ → (ℕ → ℕ → Line) → Line
-two s f = first s f (spaced s 1)
-
--- by its letter: S, F, G, W, D, L
 unfoldable pub lineOf : List ℕ → Line
-lineOf s =
-    cond (eqb (nth s 0) 83) (one s start)
-    (cond (eqb (nth s 0) 70) (one s (λ w. call (addServer w)))
-    (cond (eqb (nth s 0) 71) (two s (λ k w. call (reweight k w)))
-    (cond (eqb (nth s 0) 87) (two s (λ id v. call (write id v)))
-    (cond (eqb (nth s 0) 68) (one s (λ id. call (delete id)))
-    (cond (eqb (nth s 0) 76) (one s (λ id. call (lookup id)))
-    unreadable)))))
+lineOf s = first s (spaced s 1)
 
 -- where the line that begins at a position ends: at the first LF from there on, or at the end
 unfoldable pub endBelow : List ℕ → ℕ → ℕ → ℕ

@@ -2,9 +2,8 @@
 use Prim.Native.Nat.{ℕ, zero, suc, _+_, _/_, _%_}
 use mathlib.Core.Bool.{cond}
 use mathlib.Core.List.{List, [], _∷_, _++_}
-use lib.Dec.{ltb}
+use lib.Dec.{ltb, eqb}
 use Rattle.archive.specs.declared.Reply.{Reply}
-use Rattle.history.specs.Call.{Call, addServer, reweight, write, delete, lookup}
 
 -- decimal digits without leading zeros, of a number of at most n digits
 unfoldable pub digits : ℕ → ℕ → List ℕ
@@ -21,10 +20,12 @@ printed letter refusal a b = letter ∷ 32 ∷ (decimal refusal ++ (32 ∷ (deci
 unfoldable pub question : List ℕ
 question = 63 ∷ 10 ∷ []
 
--- F server 0; G server 0; W server invalidated; D invalidated 0; L value opened
-unfoldable pub answered : Call → Reply → List ℕ
-answered (addServer w) r = printed 70 (r .refusal) (r .server) 0
-answered (reweight k w) r = printed 71 (r .refusal) (r .server) 0
-answered (write id v) r = printed 87 (r .refusal) (r .server) (r .invalidated)
-answered (delete id) r = printed 68 (r .refusal) (r .invalidated) 0
-answered (lookup id) r = printed 76 (r .refusal) (r .value) (r .opened)
+-- the answers of calls 1 to 5: F server 0; G server 0; W server invalidated; D invalidated 0; L value opened
+unfoldable pub answered : ℕ → Reply → List ℕ
+answered number r =
+    cond (eqb number 1) (printed 70 (r .refusal) (r .server) 0)
+    (cond (eqb number 2) (printed 71 (r .refusal) (r .server) 0)
+    (cond (eqb number 3) (printed 87 (r .refusal) (r .server) (r .invalidated))
+    (cond (eqb number 4) (printed 68 (r .refusal) (r .invalidated) 0)
+    (cond (eqb number 5) (printed 76 (r .refusal) (r .value) (r .opened))
+    question))))

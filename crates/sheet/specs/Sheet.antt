@@ -7,16 +7,24 @@ use lib.ListN.{length, replicate}
 use lib.Dec.{ltb}
 use Rattle.medium.specs.Word.{blank}
 use Rattle.table.specs.declared.Table.{Table}
-use Rattle.archive.specs.Refusal.{firstOf, settle}
-use Rattle.archive.specs.Calls.{startRows, startTable}
-use Rattle.history.specs.Machine.{State, reply, next}
-use Rattle.sheet.specs.Line.{Line, start, call, unreadable, lineOf, linesOf}
+use Rattle.archive.specs.Refusal.{settle}
+use Rattle.archive.specs.Calls.{startRows, startReply, startTable}
+use Rattle.history.specs.Machine.{State}
+use Rattle.history.specs.Replay.{callOf, replyTo, nextBy}
+use Rattle.sheet.specs.declared.InUse.{InUse}
+use Rattle.sheet.specs.declared.Line.{Line}
+use Rattle.sheet.specs.declared.Line.the-variants as line
+use Rattle.sheet.specs.Line.{lineOf, linesOf}
 use Rattle.sheet.specs.Print.{printed, question, answered}
 
 -- the table in use, none before the first accepted S, and the medium
 pub record Sheet : Type 0 where
   pub table : Option Table
   pub medium : List ℕ
+
+-- as running code holds it
+unfoldable pub sheetOf : InUse → List ℕ → Sheet
+sheetOf u m = record { table = cond (u .started) (some (u .table)) none; medium = m }
 
 -- what a line prints, and the sheet after it
 pub record Done : Type 0 where
@@ -26,26 +34,30 @@ pub record Done : Type 0 where
 -- an accepted S starts a table and blanks the words; a refused one keeps the table in use
 unfoldable pub started : Sheet → ℕ → Done
 started s capacity = record {
-  bytes = printed 83 (firstOf (startRows capacity)) 0 0;
+  bytes = printed 83 (startReply capacity .refusal) 0 0;
   sheet = settle (startRows capacity) (record { table = some (startTable capacity); medium = replicate (length (s .medium)) blank }) s;
 }
 
 -- before the first accepted S a call prints a question mark
-unfoldable pub called : Sheet → Option Table → Line → Done
-called s o unreadable = record { bytes = question; sheet = s }
-called s o (start capacity) = started s capacity
-called s none (call c) = record { bytes = question; sheet = s }
-called s (some t) (call c) =
+unfoldable pub called : Sheet → Option Table → ℕ → ℕ → ℕ → Done
+called s none number a b = record { bytes = question; sheet = s }
+called s (some t) number a b =
     let S : State = record { table = t; medium = s .medium } in
+    let o = callOf number a b in
     record {
-      bytes = answered c (reply S c);
-      sheet = record { table = some (next S c .table); medium = next S c .medium };
+      bytes = answered number (replyTo S o);
+      sheet = record { table = some (nextBy S o .table); medium = nextBy S o .medium };
     }
+
+unfoldable pub lineRun : Sheet → Line → Done
+lineRun s (line.Start capacity) = started s capacity
+lineRun s (line.Call number a b) = called s (s .table) number a b
+lineRun s line.Unreadable = record { bytes = question; sheet = s }
 
 unfoldable pub run : Sheet → List (List ℕ) → Done
 run s [] = record { bytes = []; sheet = s }
 run s (l ∷ rest) =
-    let d = called s (s .table) (lineOf l) in
+    let d = lineRun s (lineOf l) in
     let r = run (d .sheet) rest in
     record { bytes = d .bytes ++ r .bytes; sheet = r .sheet }
 

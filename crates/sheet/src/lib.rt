@@ -1,9 +1,62 @@
 // The text of daysheet: lines read, calls run, answers printed, over slices alone.
+mod lines;
 mod print;
 mod read;
+
+ghost use mathlib.Core.Path.{_≡_};
+ghost use Prim.Native.Nat.{_*_, _≤_};
+ghost use lib.ListN.{length};
+ghost use lib.Seq.{sets};
+ghost use Rattle.sheet.specs.Sheet.{outputOf};
+use table::Table;
 
 // A number and the position after it, or nothing that reads as one.
 pub enum Parsed {
     Number(u32, usize),
     Nothing,
+}
+
+// What a line asks for: a start; a call with its numbers, 1 to 5 as history's run_call has them; or a line that can't be read so.
+pub enum Line {
+    Start(u32),
+    Call(u32, u32, u32),
+    Unreadable,
+}
+
+// The table in use, once a start was accepted; before that the table counts for nothing.
+pub struct InUse {
+    pub started: bool,
+    pub table: Table,
+}
+
+// The position after what a line printed, and the table in use after it.
+pub struct Ran {
+    pub next: usize,
+    pub in_use: InUse,
+}
+
+// Puts a sheet's output at the start of the buffer and answers its number of bytes. A byte of input prints at most 35.
+pub fn run(input: &[u8], medium: &mut [u32], out: &mut [u8]) -> usize
+    requires { ⌜ 35 * length (now input) ≤ length (now out) ⌝ }
+    ensures number { λ r. ⌜ r ≡ length (outputOf (now (input .entry)) (now (medium .entry)) .bytes) ⌝ }
+    ensures bytes { λ _. ⌜ now (out .exit) ≡ sets (now (out .entry)) 0 (outputOf (now (input .entry)) (now (medium .entry)) .bytes) ⌝ }
+    ensures words { λ _. ⌜ now (medium .exit) ≡ outputOf (now (input .entry)) (now (medium .entry)) .sheet .medium ⌝ }
+{
+    if input.len() > 65536 {
+        return print::put_question(out, 0);
+    }
+    let mut in_use = InUse {
+        started: false,
+        table: table::empty(0),
+    };
+    let mut from: usize = 0;
+    let mut at: usize = 0;
+    while from < input.len() {
+        let end = read::line_end(input, from);
+        let ran = lines::run_line(in_use, medium, &input[from..end], out, at);
+        in_use = ran.in_use;
+        at = ran.next;
+        from = end + 1;
+    }
+    at
 }

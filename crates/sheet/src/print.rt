@@ -1,9 +1,10 @@
 // Printing into a lent buffer: each function puts its bytes at a position and answers the position after them.
 ghost use mathlib.Core.Path.{_≡_};
-ghost use Prim.Native.Nat.{_≤_, _+_};
+ghost use Prim.Native.Nat.{_<_, _≤_, _+_};
 ghost use lib.ListN.{length};
 ghost use lib.Seq.{sets};
-ghost use Rattle.sheet.specs.Print.{decimal, printed, question};
+ghost use Rattle.sheet.specs.Print.{decimal, printed, question, answered};
+use archive::Reply;
 
 // A number without leading zeros.
 fn put_number(out: &mut [u8], at: usize, x: u32) -> usize
@@ -42,6 +43,26 @@ pub fn put_answer(
     let three = put_number(out, two + 1, second);
     out[three] = 10;
     three + 1
+}
+
+// The answer line of a call by its number.
+pub fn put_reply(out: &mut [u8], at: usize, number: u32, reply: Reply) -> usize
+    requires { ⌜ at + 35 ≤ length (now out) ⌝ }
+    requires { ⌜ (reply .server < 4294967296) × (reply .opened < 4294967296) × (reply .invalidated < 4294967296) ⌝ }
+    ensures next { λ r. ⌜ r ≡ at + length (answered number reply) ⌝ }
+    ensures bytes { λ _. ⌜ now (out .exit) ≡ sets (now (out .entry)) at (answered number reply) ⌝ }
+{
+    let refusal = reply.refusal;
+    let server = reply.server as u32;
+    let invalidated = reply.invalidated as u32;
+    match number {
+        1 => put_answer(out, at, 70, refusal, server, 0),
+        2 => put_answer(out, at, 71, refusal, server, 0),
+        3 => put_answer(out, at, 87, refusal, server, invalidated),
+        4 => put_answer(out, at, 68, refusal, invalidated, 0),
+        5 => put_answer(out, at, 76, refusal, reply.value, reply.opened as u32),
+        _ => put_question(out, at),
+    }
 }
 
 // A line that can't be read, or comes before the first accepted S.

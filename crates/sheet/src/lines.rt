@@ -1,0 +1,166 @@
+// Running one line. Its answer goes to the lent buffer, from a position on.
+ghost use mathlib.Core.Path.{_≡_};
+ghost use Prim.Native.Nat.{_+_, _≤_};
+ghost use lib.ListN.{length, replicate};
+ghost use lib.Seq.{sets};
+ghost use Rattle.medium.specs.Word.{blank};
+ghost use Rattle.sheet.specs.declared.Line.the-variants as line;
+ghost use Rattle.sheet.specs.Line.{lineBy, hasTwo, lineOf};
+ghost use Rattle.sheet.specs.Print.{question};
+ghost use Rattle.sheet.specs.Sheet.{sheetOf, lineRun};
+use crate::InUse;
+use crate::Line;
+use crate::Parsed;
+use crate::Ran;
+use crate::print;
+use crate::read;
+
+fn blank_all(words: &mut [u32])
+    ensures { λ _. ⌜ now (words .exit) ≡ replicate (length (now (words .entry))) blank ⌝ }
+{
+    let mut i: usize = 0;
+    while i < words.len() {
+        words[i] = medium::BLANK;
+        i += 1;
+    }
+}
+
+// The question mark of a line that can't be read, or comes before the first accepted S.
+fn ask(in_use: InUse, out: &mut [u8], at: usize) -> Ran
+    requires { ⌜ at + 2 ≤ length (now out) ⌝ }
+    ensures next { λ r. ⌜ r .next ≡ at + length question ⌝ }
+    ensures bytes { λ _. ⌜ now (out .exit) ≡ sets (now (out .entry)) at question ⌝ }
+    ensures kept { λ r. ⌜ r .in_use ≡ in_use ⌝ }
+{
+    let next = print::put_question(out, at);
+    Ran { next, in_use }
+}
+
+// A start that is refused keeps the table in use.
+fn run_start(in_use: InUse, medium: &mut [u32], capacity: u32, out: &mut [u8], at: usize) -> Ran
+    requires { ⌜ at + 35 ≤ length (now out) ⌝ }
+    ensures next { λ r. ⌜ r .next ≡ at + length (lineRun (sheetOf in_use (now (medium .entry))) (line.Start capacity) .bytes) ⌝ }
+    ensures bytes { λ _. ⌜ now (out .exit) ≡ sets (now (out .entry)) at (lineRun (sheetOf in_use (now (medium .entry))) (line.Start capacity) .bytes) ⌝ }
+    ensures sheet { λ r. ⌜ sheetOf (r .in_use) (now (medium .exit)) ≡ lineRun (sheetOf in_use (now (medium .entry))) (line.Start capacity) .sheet ⌝ }
+{
+    let begun = archive::start(capacity);
+    let answer = begun.answer;
+    let reply = archive::start_reply(answer);
+    let next = print::put_answer(out, at, 83, reply.refusal, 0, 0);
+    if reply.refusal != 0 {
+        return Ran { next, in_use };
+    }
+    blank_all(medium);
+    let table = begun.table;
+    Ran {
+        next,
+        in_use: InUse {
+            started: true,
+            table,
+        },
+    }
+}
+
+// A call of history's number; before the first accepted S it is not run.
+fn run_call(
+    in_use: InUse,
+    medium: &mut [u32],
+    number: u32,
+    first: u32,
+    second: u32,
+    out: &mut [u8],
+    at: usize,
+) -> Ran
+    requires { ⌜ at + 35 ≤ length (now out) ⌝ }
+    ensures next { λ r. ⌜ r .next ≡ at + length (lineRun (sheetOf in_use (now (medium .entry))) (line.Call number first second) .bytes) ⌝ }
+    ensures bytes { λ _. ⌜ now (out .exit) ≡ sets (now (out .entry)) at (lineRun (sheetOf in_use (now (medium .entry))) (line.Call number first second) .bytes) ⌝ }
+    ensures sheet { λ r. ⌜ sheetOf (r .in_use) (now (medium .exit)) ≡ lineRun (sheetOf in_use (now (medium .entry))) (line.Call number first second) .sheet ⌝ }
+{
+    if !in_use.started {
+        return ask(in_use, out, at);
+    }
+    let table = in_use.table;
+    let ran = history::run_call(table, medium, number, first, second);
+    let next = print::put_reply(out, at, number, ran.reply);
+    let after = ran.table;
+    Ran {
+        next,
+        in_use: InUse {
+            started: true,
+            table: after,
+        },
+    }
+}
+
+// The line of a letter and its numbers.
+fn line_by(letter: u8, first: u32, second: u32) -> Line
+    ensures { λ r. ⌜ r ≡ lineBy letter first second ⌝ }
+{
+    match letter {
+        83 => Line::Start(first),
+        70 => Line::Call(1, first, second),
+        71 => Line::Call(2, first, second),
+        87 => Line::Call(3, first, second),
+        68 => Line::Call(4, first, second),
+        76 => Line::Call(5, first, second),
+        _ => Line::Unreadable,
+    }
+}
+
+fn has_two(letter: u8) -> bool
+    ensures { λ r. ⌜ r ≡ hasTwo letter ⌝ }
+{
+    match letter {
+        71 | 87 => true,
+        _ => false,
+    }
+}
+
+fn run_read(in_use: InUse, medium: &mut [u32], line: Line, out: &mut [u8], at: usize) -> Ran
+    requires { ⌜ at + 35 ≤ length (now out) ⌝ }
+    ensures next { λ r. ⌜ r .next ≡ at + length (lineRun (sheetOf in_use (now (medium .entry))) line .bytes) ⌝ }
+    ensures bytes { λ _. ⌜ now (out .exit) ≡ sets (now (out .entry)) at (lineRun (sheetOf in_use (now (medium .entry))) line .bytes) ⌝ }
+    ensures sheet { λ r. ⌜ sheetOf (r .in_use) (now (medium .exit)) ≡ lineRun (sheetOf in_use (now (medium .entry))) line .sheet ⌝ }
+{
+    match line {
+        Line::Start(capacity) => run_start(in_use, medium, capacity, out, at),
+        Line::Call(number, first, second) => run_call(
+            in_use,
+            medium,
+            number,
+            first,
+            second,
+            out,
+            at,
+        ),
+        Line::Unreadable => ask(in_use, out, at),
+    }
+}
+
+// Each number is taken out of the line's bytes, or the line gets its question mark.
+pub fn run_line(in_use: InUse, medium: &mut [u32], line: &[u8], out: &mut [u8], at: usize) -> Ran
+    requires { ⌜ at + 35 ≤ length (now out) ⌝ }
+    ensures next { λ r. ⌜ r .next ≡ at + length (lineRun (sheetOf in_use (now (medium .entry))) (lineOf (now (line .entry))) .bytes) ⌝ }
+    ensures bytes { λ _. ⌜ now (out .exit) ≡ sets (now (out .entry)) at (lineRun (sheetOf in_use (now (medium .entry))) (lineOf (now (line .entry))) .bytes) ⌝ }
+    ensures sheet { λ r. ⌜ sheetOf (r .in_use) (now (medium .exit)) ≡ lineRun (sheetOf in_use (now (medium .entry))) (lineOf (now (line .entry))) .sheet ⌝ }
+{
+    let one = read::number_after(line, 1);
+    let Parsed::Number(first, after_first) = one else {
+        return ask(in_use, out, at);
+    };
+    let letter = line[0];
+    let mut second: u32 = 0;
+    let mut end = after_first;
+    if has_two(letter) {
+        let two = read::number_after(line, after_first);
+        let Parsed::Number(number, after_second) = two else {
+            return ask(in_use, out, at);
+        };
+        second = number;
+        end = after_second;
+    }
+    if end != line.len() {
+        return ask(in_use, out, at);
+    }
+    run_read(in_use, medium, line_by(letter, first, second), out, at)
+}
