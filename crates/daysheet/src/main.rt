@@ -1,0 +1,4 @@
+// Runs the sheet on standard input and prints its answers.
+fn main() {
+    console::run();
+}
