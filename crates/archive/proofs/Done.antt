@@ -23,7 +23,6 @@ use Rattle.archive.specs.declared.Found.the-variants.{At, Nowhere}
 use Rattle.archive.specs.declared.Refusal.{Refusal}
 use Rattle.archive.specs.declared.Refusal.the-variants.{NotFound}
 use Rattle.archive.specs.Refusal.{firstOf}
-use Rattle.archive.specs.declared.Reply.{Reply}
 use Rattle.archive.specs.Reply.{refused, found, onServer, numberOf}
 use Rattle.archive.specs.Search.{Place, Search, reads, searchFor, foundAt, foundBy}
 use Rattle.archive.specs.Calls.{short, target, writeRows, writeMarks, writeReply, writeMedium, isMet, deleteRows, deleteMarks, deleteReply, deleteMedium, lookupRows, metReply, lookupReply}

@@ -2,3 +2,4 @@ mod Reading
 mod Printing
 mod Running
 pub mod Sheets
+pub mod Alike

@@ -5,7 +5,6 @@ use mathlib.Core.Path.{_≡_, refl, sym, ap, _∙_}
 use mathlib.Core.Bool.{false, cond}
 use mathlib.Core.List.{List, [], _∷_, _++_}
 use mathlib.Core.Option.{Option, none, some}
-use native.Mathlib.Nat.{add-zero}
 use native.Mathlib.Omega.{arith}
 use lib.ListN.{length, take, drop, length-append, length-drop, drop-of-length-le}
 use lib.Seq.{sets, drop-cons, drop-drop}
@@ -19,7 +18,7 @@ use Rattle.sheet.specs.declared.InUse.{InUse}
 use Rattle.sheet.specs.declared.Line.{Line}
 use Rattle.sheet.specs.declared.Line.the-variants as line
 use Rattle.sheet.specs.Line.{lineOf, endBelow, endOf, longer, linesOf}
-use Rattle.sheet.specs.Print.{decimal, printed, question, answered}
+use Rattle.sheet.specs.Print.{printed, question, answered}
 use Rattle.sheet.specs.Sheet.{Sheet, Done, sheetOf, started, called, lineRun, run, outputOf}
 use Rattle.sheet.proofs.Printing.{decimal-short, sets-append, length-line}
 

@@ -1,11 +1,9 @@
 -- `sheet::run` meets its contract. The invariant: what is printed and what is left make up the whole, and there is room for it.
-use Prim.Native.Nat.{_+_, _-_, _*_, _≤_}
+use Prim.Native.Nat.{_-_, _*_, _≤_}
 use mathlib.Core.Path.{_≡_, refl, _∙_}
 use native.Mathlib.Omega.{arith}
 use lib.ListN.{length}
 use borrow.Author.Needs.{needs}
-use Rattle.sheet.specs.Line.{endOf, lineOf}
-use Rattle.sheet.specs.Sheet.{sheetOf}
 use Rattle.sheet.proofs.Sheets.{still-room, end-bounds, Left, all-left, one-done, none-left, too-long}
 use Rattle.sheet.proofs.run.Statement.{statement}
 use Rattle.sheet.proofs.run.Tie as tie

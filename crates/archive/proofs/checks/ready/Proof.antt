@@ -6,7 +6,7 @@ use borrow.Author.Needs.{needs}
 use borrow.Author.Tests.{lt-ltb, le-ltb, le-leb, lt-leb, eq-eqb, ne-eqb, not-true, not-false}
 use Rattle.table.specs.declared.Table.{Table}
 use Rattle.table.specs.Sound.{tableOf, sound}
-use Rattle.table.proofs.Soundness.{Sound, sound-facts}
+use Rattle.table.proofs.Soundness.{sound-facts}
 use Rattle.archive.specs.Refusal.{firstOf}
 use Rattle.archive.specs.Reply.{numberOf, checkNumber}
 use Rattle.archive.specs.Calls.{short, lookupRows}

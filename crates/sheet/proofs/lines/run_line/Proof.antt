@@ -2,10 +2,8 @@
 use mathlib.Core.Path.{_≡_, sym, ap, _∙_}
 use mathlib.Core.Logic.{⊎-elim}
 use mathlib.Core.Option.{some}
-use lib.ListN.{length}
 use borrow.Author.Needs.{needs}
-use Rattle.placement.specs.Below.{nth}
-use Rattle.sheet.specs.Line.{hasTwo, spaced, lineOf}
+use Rattle.sheet.specs.Line.{spaced, lineOf}
 use Rattle.sheet.specs.Sheet.{sheetOf, lineRun}
 use Rattle.sheet.proofs.Reading.{nothing-read, number-there, inside-line, no-first, no-second, wholeOf, with-second, without-second, more-after, none-after}
 use Rattle.sheet.proofs.Running.{shown, asked, not-read}
