@@ -3,7 +3,7 @@
 use Prim.Native.Nat.{ℕ, _≤_, _<_}
 use mathlib.Core.Path.{_≡_, refl}
 use mathlib.Core.Bool.{Bool, true, false, not, _||_}
-use mathlib.Core.List.{List}
+use mathlib.Core.List.{List, _∷_}
 use native.Mathlib.Omega.{arith}
 use lib.ListN.{length}
 use lib.Dec.{leb, ltb, eqb}
@@ -14,7 +14,7 @@ use Rattle.medium.specs.Entry.{serverAt, AllInside}
 use Rattle.table.specs.declared.Table.{Table}
 use Rattle.table.specs.Sound.{usedOf, sound}
 use Rattle.table.proofs.Soundness.{sound-facts}
-use Rattle.archive.specs.Refusal.{firstOf}
+use Rattle.archive.specs.Refusal.{Row, _when_, firstOf}
 use Rattle.archive.specs.Calls.{addServerRows, reweightRows, short, target, writeRows, lookupRows}
 use Rattle.archive.proofs.Refusals.{passed}
 use Rattle.archive.proofs.Searches.{target-is}
@@ -106,3 +106,7 @@ write-accepted t m id value z =
       free = omega (arith, s .server (target t id) l .fits, eqb-false (usedOf t (target t id)) (t .capacity) (f .0));
       inside = record { small = s .high; few = s .few; fits = λ k l. s .server k l .fits; long = ltb-false _ _ (e .0) };
     }
+
+-- a delete or a lookup past its first two rows
+pub in-range : (unsound : Bool) (id : ℕ) (rows : List Row) → firstOf (1 when unsound ∷ 2 when leb contentRange id ∷ rows) ≡ 0 → id < contentRange
+in-range unsound id rows z = leb-false contentRange id (passed 1 (leb contentRange id) rows (passed 0 unsound _ z .1) .0)

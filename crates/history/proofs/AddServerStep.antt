@@ -14,7 +14,7 @@ use Rattle.placement.specs.declared.Fraction.{Fraction}
 use Rattle.placement.specs.Below.{nth}
 use Rattle.placement.specs.Rule.{writeP}
 use Rattle.placement.proofs.Tests.{byBool}
-use Rattle.placement.proofs.Rules.{writeP-cong}
+use Rattle.placement.proofs.Rules.{writeP-cong, readable-cong}
 use Rattle.medium.specs.Word.{blank}
 use Rattle.medium.specs.Entry.{serverAt, entryAt, bears, blankRun}
 use Rattle.medium.proofs.Places.{server-le, entry-in, entry-above, server-next}
@@ -29,7 +29,6 @@ use Rattle.archive.specs.Calls.{addServerRows, addServerReply, addServerTable}
 use Rattle.history.specs.Call.{addServer, compared}
 use Rattle.history.specs.Ledger.{Event, Ledger, told, usedBy, standing, range, put, addServerRowsL, withServerL, enter}
 use Rattle.archive.proofs.Refusals.{passed, settle-yes, settle-no}
-use Rattle.history.proofs.Lists.{readable-cong}
 use Rattle.history.proofs.Tops.{top-wider}
 use Rattle.history.proofs.Events.{placeOf}
 use Rattle.history.proofs.Holds.{Holds}

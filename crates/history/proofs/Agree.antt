@@ -14,7 +14,7 @@ use borrow.Author.Tests.{eqb-true, eqb-false, eq-eqb, ne-eqb}
 use Rattle.placement.specs.Draw.{modulus, drawOf}
 use Rattle.placement.specs.Rule.{pick, writeServer, readable}
 use Rattle.placement.proofs.Tests.{byBool}
-use Rattle.placement.proofs.Rules.{pick-cong}
+use Rattle.placement.proofs.Rules.{pick-cong, readable-cong}
 use Rattle.medium.specs.Entry.{serverAt, bears, live}
 use Rattle.medium.specs.Burn.{marksOver}
 use Rattle.medium.proofs.Entries.{live-i, live-used, live-bears}
@@ -31,7 +31,6 @@ use Rattle.history.specs.Call.{compared}
 use Rattle.history.specs.Ledger.{Ledger, Entered, enterBy, put, usedBy, standing, range, shortL, targetL}
 use Rattle.archive.proofs.Searches.{met-some, met-none}
 use Rattle.archive.proofs.Refusals.{settle-yes, settle-no}
-use Rattle.history.proofs.Lists.{readable-cong}
 use Rattle.history.proofs.Tops.{TopAt, top-same}
 use Rattle.history.proofs.Events.{placeOf}
 use Rattle.history.proofs.Entering.{entered}

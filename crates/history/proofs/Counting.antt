@@ -8,11 +8,10 @@ use lib.Dec.{eqb}
 use borrow.Author.Tests.{eqb-true, ne-eqb}
 use Rattle.placement.specs.Below.{countBelow, total}
 use Rattle.placement.proofs.Tests.{byBool}
-use Rattle.placement.proofs.Below.{total-cong, countBelow-le}
+use Rattle.placement.proofs.Below.{total-cong, countBelow-le, total-mono}
 use Rattle.table.specs.Sound.{usedOf}
 use Rattle.history.specs.Machine.{State, liveForItsId, liveEntries}
 use Rattle.history.specs.Ledger.{Event, wrote, deleted, Ledger, usedBy, writes}
-use Rattle.history.proofs.Lists.{total-mono}
 use Rattle.history.proofs.Agree.{Agree}
 
 -- a sum with one more at one place

@@ -18,7 +18,7 @@ use Rattle.archive.specs.Calls.{isMet, deleteRows, deleteMarks, deleteReply, de
 use Rattle.history.specs.Call.{delete, compared}
 use Rattle.history.specs.Ledger.{deleted, Ledger, Standing, usedBy, standing, isStanding, range, withEvent, deleteRowsL, enter}
 use Rattle.archive.proofs.Refusals.{settle-yes, settle-no}
-use Rattle.history.proofs.Lists.{in-range}
+use Rattle.archive.proofs.Accepted.{in-range}
 use Rattle.history.proofs.Events.{placeOf}
 use Rattle.history.proofs.Deleting.{afterDelete, delete-holds}
 use Rattle.history.proofs.Agree.{Agree, Step, settled, same-short, same-reads, same-marks, same-met}

@@ -10,12 +10,11 @@ use lib.Dec.{eqb}
 use borrow.Author.Tests.{eqb-true, eqb-false}
 use Rattle.placement.specs.declared.Fraction.{Fraction}
 use Rattle.placement.specs.Rule.{readable}
-use Rattle.placement.proofs.Tests.{byBool, iff-eq}
+use Rattle.placement.proofs.Tests.{byBool, iff-eq, except}
 use Rattle.medium.specs.Word.{deleted as deletedMark}
 use Rattle.medium.specs.Entry.{bears}
 use Rattle.medium.specs.Burn.{burnAll, marksOver, invalidations}
 use Rattle.history.specs.Ledger.{Event, deleted, usedBy, standing, range}
-use Rattle.history.proofs.Lists.{except}
 use Rattle.history.proofs.Tops.{TopAt, top-cong}
 use Rattle.history.proofs.Events.{placeOf, each-deleted, deleted-self, deleted-other}
 use Rattle.history.proofs.Holds.{Holds, once-written}

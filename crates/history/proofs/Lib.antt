@@ -1,4 +1,3 @@
-pub mod Lists
 pub mod Tops
 pub mod Events
 pub mod Entering

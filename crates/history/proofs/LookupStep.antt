@@ -24,7 +24,7 @@ use Rattle.history.specs.Call.{lookup, compared}
 use Rattle.history.specs.Ledger.{Ledger, Standing, standing, range, lookupRowsL, openedFrom, standingReply, enter}
 use Rattle.archive.proofs.Searches.{opened-are}
 use Rattle.archive.proofs.Refusals.{settle-yes}
-use Rattle.history.proofs.Lists.{in-range}
+use Rattle.archive.proofs.Accepted.{in-range}
 use Rattle.history.proofs.Events.{placeOf, stands-came}
 use Rattle.history.proofs.Holds.{Written}
 use Rattle.history.proofs.Agree.{Agree, Step, settled, same-short, same-reads, same-met}

@@ -14,14 +14,13 @@ use borrow.Author.Tests.{leb-false, eqb-true, eqb-false, eq-eqb}
 use Rattle.placement.specs.declared.Fraction.{Fraction}
 use Rattle.placement.specs.Below.{nth}
 use Rattle.placement.specs.Rule.{readable}
-use Rattle.placement.proofs.Tests.{byBool, true-not-false, and-l, and-r, and-i, iff-eq}
+use Rattle.placement.proofs.Tests.{byBool, true-not-false, and-l, and-r, and-i, iff-eq, except}
 use Rattle.medium.specs.Word.{idWord, valueWord, replaced, blank}
 use Rattle.medium.specs.Entry.{entryAt, valueAt, markAt, bears}
 use Rattle.medium.specs.Burn.{burnAll, marksOver, invalidations}
 use Rattle.medium.proofs.Places.{entry-in, entry-apart}
 use Rattle.medium.proofs.Entries.{bears-i, bears-id, bears-cong}
 use Rattle.history.specs.Ledger.{Event, wrote, usedBy, standing, range}
-use Rattle.history.proofs.Lists.{except}
 use Rattle.history.proofs.Tops.{Upto, Top, TopAt, top-cong}
 use Rattle.history.proofs.Events.{placeOf, each-wrote, used-self, used-other, used-grows, wrote-self, wrote-other}
 use Rattle.history.proofs.Holds.{Written, Holds, bears-used, Once, once-blank, once-written}

@@ -70,6 +70,11 @@ unfolding total
 total-le f most zero h = omega arith
 total-le f most (suc n) h = omega (arith, total-le f most n (λ k l. h k (omega arith)), h n (omega arith))
 
+pub total-mono : (f g : ℕ → ℕ) (n : ℕ) → ((k : ℕ) → k < n → f k ≤ g k) → total f n ≤ total g n
+unfolding total
+total-mono f g zero h = omega arith
+total-mono f g (suc n) h = omega (arith, total-mono f g n (λ k l. h k (omega arith)), h n (omega arith))
+
 -- one number more, as a loop counts
 pub total-more : (f : ℕ → ℕ) (n : ℕ) → total f (n + 1) ≡ total f n + f n
 unfolding total
@@ -169,6 +174,11 @@ setBelow-at f zero xs h k l = absurd (omega arith)
 setBelow-at f (suc n) xs h k l = byBool (eqb k n)
     (λ d. rw (eqb-true k n d) (getD-set-same (setBelow f n xs) n (f n) 0 (rw length-setBelow h)))
     (λ d. getD-set-other (setBelow f n xs) n k (f n) 0 (eqb-false k n d) ∙ setBelow-at f n xs (omega arith) k (omega (arith, eqb-false k n d)))
+
+pub setBelow-above : (f : ℕ → ℕ) (n : ℕ) (xs : List ℕ) (k : ℕ) → n ≤ k → nth (setBelow f n xs) k ≡ nth xs k
+unfolding setBelow
+setBelow-above f zero xs k l = refl
+setBelow-above f (suc n) xs k l = getD-set-other (setBelow f n xs) n k (f n) 0 (λ e. omega arith) ∙ setBelow-above f n xs k (omega arith)
 
 -- one number more, as a loop counts
 pub setBelow-more : (f : ℕ → ℕ) (n : ℕ) (xs ys : List ℕ) (k : ℕ) → ys ≡ setBelow f n xs → k ≡ f n → set ys n k ≡ setBelow f (n + 1) xs

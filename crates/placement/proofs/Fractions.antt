@@ -10,6 +10,9 @@ use Rattle.placement.specs.declared.Fraction.{Fraction}
 use Rattle.placement.specs.Fraction.{exceeds, atLeast, raise}
 use Rattle.placement.proofs.Tests.{byBool}
 
+pub fraction-eq : (p q : Fraction) → p .num ≡ q .num → p .den ≡ q .den → p ≡ q
+fraction-eq p q a b = λ i. record { num = a i; den = b i }
+
 pub one-exceeds : (m x : ℕ) → x < m → exceeds m (record { num = 1; den = 1 }) x ≡ true
 unfolding exceeds
 one-exceeds m x h = lt-ltb (x * 1) (1 * m) (omega arith)

@@ -11,7 +11,7 @@ use Rattle.placement.specs.declared.Fraction.{Fraction}
 use Rattle.placement.specs.Below.{orZero, total}
 use Rattle.placement.specs.Draw.{modulus, drawOf}
 use Rattle.placement.specs.Fraction.{exceeds}
-use Rattle.placement.specs.Rule.{shareOf, writeP, takes, pick, writeServer, Picked}
+use Rattle.placement.specs.Rule.{shareOf, writeP, takes, pick, writeServer, readable, Picked}
 use Rattle.placement.proofs.Tests.{byBool}
 use Rattle.placement.proofs.Below.{Highest, highest-is, highest-only, highest-cong, total-cong, total-le}
 use Rattle.placement.proofs.Draws.{draw<}
@@ -73,6 +73,10 @@ writeP-cong v u k h = rw (h k (omega arith), total-cong v u (suc k) (λ i l. h i
 pub takes-cong : (m : ℕ) (draw : ℕ → ℕ) (f g : ℕ → Fraction) (k : ℕ) → f k ≡ g k → takes m draw f k ≡ takes m draw g k
 unfolding takes
 takes-cong m draw f g k e = rw e
+
+pub readable-cong : (f g : ℕ → Fraction) (id k : ℕ) → f k ≡ g k → readable f id k ≡ readable g id k
+unfolding readable
+readable-cong f g id k e = takes-cong modulus (drawOf id) f g k e
 
 pub pick-cong : (m : ℕ) (draw v u : ℕ → ℕ) (n : ℕ) → ((i : ℕ) → i < n → v i ≡ u i) → pick m draw v n ≡ pick m draw u n
 unfolding pick

@@ -1,9 +1,12 @@
 -- Laws of Bool tests.
 -- Assumes nothing.
 use Prim.Native.Nat.{ℕ}
-use mathlib.Core.Path.{_≡_, refl, sym}
-use mathlib.Core.Bool.{Bool, true, false, _&&_}
+use mathlib.Core.Path.{_≡_, refl, sym, _∙_, subst}
+use mathlib.Core.Bool.{Bool, true, false, not, _&&_, and-true, and-false}
+use mathlib.Core.Logic.{_≢_}
 use native.Mathlib.Omega.{arith}
+use lib.Dec.{eqb}
+use borrow.Author.Tests.{eqb-true, eqb-false}
 
 -- by cases on a test, each with its equation
 pub byBool {ℓ} : {X : Type ℓ} (b : Bool) → (b ≡ true → X) → (b ≡ false → X) → X
@@ -30,3 +33,12 @@ pub iff-eq : (a b : Bool) → (a ≡ true → b ≡ true) → (b ≡ true → a 
 iff-eq true b f g = sym (f refl)
 iff-eq false true f g = g refl
 iff-eq false false f g = refl
+
+-- a test that another takes from
+pub except : (a b c : Bool) → (c ≡ true → a ≡ true → ⊥) → (a ≡ true → b ≡ true) → (c ≡ false → b ≡ true → a ≡ true) → a ≡ b && not c
+except a b true gone less kept = byBool a (λ d. absurd (gone refl d)) (λ d. d ∙ sym (and-false b))
+except a b false gone less kept = iff-eq a b less (kept refl) ∙ sym (and-true b)
+
+-- what holds at n and at every other number holds everywhere
+pub at-or-else : (P : ℕ → Type 0) (n k : ℕ) → P n → (k ≢ n → P k) → P k
+at-or-else P n k p q = byBool (eqb k n) (λ d. subst P (sym (eqb-true k n d)) p) (λ d. q (eqb-false k n d))

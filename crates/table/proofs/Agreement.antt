@@ -5,12 +5,11 @@ use mathlib.Core.Path.{_≡_, sym, ap, ap₂, _∙_}
 use native.Mathlib.Omega.{arith}
 use Rattle.placement.specs.Fraction.{raise}
 use Rattle.placement.specs.Rule.{writeP}
-use Rattle.placement.proofs.Tests.{iff-eq}
+use Rattle.placement.proofs.Tests.{iff-eq, at-or-else}
 use Rattle.placement.proofs.Rules.{writeP-cong}
 use Rattle.table.specs.declared.Table.{Table}
 use Rattle.table.specs.Sound.{weightOf, usedOf, readP, sound}
 use Rattle.table.specs.Upkeep.{withServer, withWeight, withEntry}
-use Rattle.table.proofs.General.{at-or-else}
 use Rattle.table.proofs.Upkeep.{Arrays, withServer-is, withWeight-is, withEntry-is}
 use Rattle.table.proofs.Soundness.{Sound, server-same, sound-facts, facts-sound}
 

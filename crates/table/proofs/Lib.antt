@@ -1,4 +1,3 @@
-pub mod General
 pub mod Upkeep
 pub mod Soundness
 pub mod Agreement

@@ -12,10 +12,10 @@ use Rattle.placement.specs.declared.Fraction.{Fraction}
 use Rattle.placement.specs.Below.{nth, setBelow, total}
 use Rattle.placement.specs.Fraction.{atLeast, raise}
 use Rattle.placement.specs.Rule.{shareOf, writeP}
-use Rattle.placement.proofs.Below.{total-more}
+use Rattle.placement.proofs.Below.{total-more, setBelow-above}
+use Rattle.placement.proofs.Fractions.{fraction-eq}
 use Rattle.table.specs.declared.Table.{Table}
 use Rattle.table.specs.Sound.{weightOf, readP}
-use Rattle.table.proofs.General.{fraction-eq, setBelow-above}
 
 -- ReadP of server k, raised
 abbrev pub better : Table → ℕ → Fraction

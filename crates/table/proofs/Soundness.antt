@@ -9,14 +9,13 @@ use Rattle.placement.specs.declared.Fraction.{Fraction}
 use Rattle.placement.specs.Below.{allBelow}
 use Rattle.placement.specs.Fraction.{atLeast, raise}
 use Rattle.placement.specs.Rule.{writeP, Bounded}
-use Rattle.placement.proofs.Tests.{byBool, true-not-false, and-l, and-r, and-i}
+use Rattle.placement.proofs.Tests.{byBool, true-not-false, and-l, and-r, and-i, at-or-else}
 use Rattle.placement.proofs.Below.{allBelow-in, allBelow-out}
 use Rattle.placement.proofs.Fractions.{atLeast-refl}
 use Rattle.placement.proofs.Rules.{writeP-proper, writeP-small, writeP-cong}
 use Rattle.table.specs.declared.Table.{Table}
 use Rattle.table.specs.Sound.{weightOf, usedOf, readP, readSound, serverSound, sound}
 use Rattle.table.specs.Upkeep.{empty, withServer, withWeight, withEntry}
-use Rattle.table.proofs.General.{at-or-else}
 use Rattle.table.proofs.Upkeep.{withServer-is, withWeight-is, withEntry-is}
 pub use Rattle.table.proofs.Upkeep.{Arrays, empty-arrays, withServer-arrays, withWeight-arrays, withEntry-arrays}
 

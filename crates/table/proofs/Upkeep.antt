@@ -10,11 +10,10 @@ use lib.Seq.{getD-set-same, getD-set-other}
 use Rattle.placement.specs.Fraction.{atLeast, raise}
 use Rattle.placement.specs.Rule.{writeP}
 use Rattle.placement.proofs.Below.{length-setBelow, setBelow-at}
-use Rattle.placement.proofs.Fractions.{raise-old}
+use Rattle.placement.proofs.Fractions.{raise-old, fraction-eq}
 use Rattle.table.specs.declared.Table.{Table}
 use Rattle.table.specs.Sound.{weightOf, usedOf, readP}
 use Rattle.table.specs.Upkeep.{empty, withServer, withWeight, withEntry}
-use Rattle.table.proofs.General.{fraction-eq}
 
 -- the lengths, which the lists of the logic do not say by themselves
 pub record Arrays (t : Table) : Type 0 where
