@@ -1,0 +1,301 @@
+//! The archive in ordinary Rust, from document 01: a mutable table and a lent medium.
+//! A refused call changes neither.
+
+use crate::placement::{draw, share, write_server, Fraction, MAX_CAPACITY, MAX_SERVERS};
+
+pub const BLANK: u32 = u32::MAX;
+pub const CONTENT_RANGE: u32 = 1 << 30;
+pub const MAX_DENOMINATOR: u32 = 1 << 24;
+const VALUE_TAG: u32 = 1;
+const MARK_TAG: u32 = 2;
+
+#[derive(Clone, Copy, Debug, PartialEq, Eq)]
+pub enum Refusal {
+    Unsound = 1,
+    OutOfRange = 2,
+    NoSuchServer = 3,
+    TooManyServers = 4,
+    ShortMedium = 5,
+    ServerFull = 6,
+    NotBlank = 7,
+    Absent = 8,
+    OverFree = 9,
+    Damaged = 10,
+}
+
+#[derive(Clone, Copy)]
+enum Mark {
+    Replaced = 1,
+    Deleted = 2,
+}
+
+impl Mark {
+    fn word(self) -> u32 {
+        MARK_TAG << 30 | self as u32
+    }
+}
+
+pub struct Written {
+    pub server: u32,
+    pub invalidated: u32,
+}
+
+pub struct Found {
+    pub value: u32,
+    pub opened: u32,
+}
+
+/// A refused lookup; absent and damaged carry the servers opened.
+pub struct Missed {
+    pub refusal: Refusal,
+    pub opened: u32,
+}
+
+impl From<Refusal> for Missed {
+    fn from(refusal: Refusal) -> Self {
+        Missed { refusal, opened: 0 }
+    }
+}
+
+/// The words of one entry: id, value, mark.
+type Entry = [u32; 3];
+
+fn is_live(entry: &Entry, id: u32) -> bool {
+    entry[0] == id && entry[2] == BLANK
+}
+
+fn refuse_if(condition: bool, refusal: Refusal) -> Result<(), Refusal> {
+    if condition {
+        Err(refusal)
+    } else {
+        Ok(())
+    }
+}
+
+/// Positions at or above `count` are not read.
+#[derive(Clone, Debug, PartialEq, Eq)]
+pub struct Table {
+    pub capacity: u32,
+    pub count: u32,
+    pub weights: [u32; MAX_SERVERS],
+    pub used: [u32; MAX_SERVERS],
+    pub read_numerators: [u32; MAX_SERVERS],
+    pub read_denominators: [u32; MAX_SERVERS],
+}
+
+impl Table {
+    /// All zeros: what a refused start leaves.
+    pub const ZERO: Table = Table {
+        capacity: 0,
+        count: 0,
+        weights: [0; MAX_SERVERS],
+        used: [0; MAX_SERVERS],
+        read_numerators: [0; MAX_SERVERS],
+        read_denominators: [0; MAX_SERVERS],
+    };
+
+    pub fn start(capacity: u32) -> Result<Table, Refusal> {
+        refuse_if(
+            capacity == 0 || capacity > MAX_CAPACITY,
+            Refusal::OutOfRange,
+        )?;
+        Ok(Table {
+            capacity,
+            ..Table::ZERO
+        })
+    }
+
+    pub fn is_sound(&self) -> bool {
+        let count = self.count as usize;
+        if self.capacity == 0 || self.capacity > MAX_CAPACITY || count > MAX_SERVERS {
+            return false;
+        }
+        let servers = self.weights[..count]
+            .iter()
+            .zip(&self.used[..count])
+            .zip(&self.read_numerators[..count])
+            .zip(&self.read_denominators[..count]);
+        let mut sum = 0;
+        for (server, (((&weight, &used), &numerator), &denominator)) in servers.enumerate() {
+            if weight > self.capacity || used > self.capacity {
+                return false;
+            }
+            if denominator == 0 || denominator > MAX_DENOMINATOR || numerator > denominator {
+                return false;
+            }
+            sum += weight;
+            let read_p = Fraction::new(numerator, denominator);
+            if share(server, weight, sum).is_above(read_p) {
+                return false;
+            }
+        }
+        true
+    }
+
+    pub fn add_server(&mut self, medium: &[u32], weight: u32) -> Result<u32, Refusal> {
+        self.refuse_unsound()?;
+        let server = self.count as usize;
+        refuse_if(weight > self.capacity, Refusal::OutOfRange)?;
+        refuse_if(server == MAX_SERVERS, Refusal::TooManyServers)?;
+        self.refuse_short(medium, server + 1)?;
+        let words = 3 * self.capacity as usize;
+        let new = &medium[words * server..words * (server + 1)];
+        refuse_if(new.iter().any(|&word| word != BLANK), Refusal::NotBlank)?;
+
+        self.weights[server] = weight;
+        self.used[server] = 0;
+        let sum = self.weights[..=server].iter().sum();
+        self.set_read_p(server, share(server, weight, sum));
+        self.count += 1;
+        Ok(server as u32)
+    }
+
+    pub fn reweight(&mut self, server: u32, weight: u32) -> Result<u32, Refusal> {
+        self.refuse_unsound()?;
+        refuse_if(weight > self.capacity, Refusal::OutOfRange)?;
+        refuse_if(server >= self.count, Refusal::NoSuchServer)?;
+        let at = server as usize;
+        refuse_if(weight > self.capacity - self.used[at], Refusal::OverFree)?;
+
+        self.weights[at] = weight;
+        self.raise_read_p();
+        Ok(server)
+    }
+
+    pub fn write(&mut self, medium: &mut [u32], id: u32, value: u32) -> Result<Written, Refusal> {
+        self.refuse_unsound()?;
+        refuse_if(
+            id >= CONTENT_RANGE || value >= CONTENT_RANGE,
+            Refusal::OutOfRange,
+        )?;
+        self.refuse_no_medium(medium)?;
+        let server = write_server(&self.weights[..self.count as usize], id);
+        let used = self.used[server];
+        refuse_if(used == self.capacity, Refusal::ServerFull)?;
+        let entry = &mut medium.as_chunks_mut().0[self.first_entry(server) + used as usize];
+        refuse_if(*entry != [BLANK; 3], Refusal::NotBlank)?;
+
+        *entry = [id, VALUE_TAG << 30 | value, BLANK];
+        let invalidated = self.invalidate(medium, server, id, Mark::Replaced);
+        self.used[server] += 1;
+        Ok(Written {
+            server: server as u32,
+            invalidated,
+        })
+    }
+
+    /// Answers how many entries it invalidated.
+    pub fn delete(&self, medium: &mut [u32], id: u32) -> Result<u32, Refusal> {
+        self.refuse_unsound()?;
+        refuse_if(id >= CONTENT_RANGE, Refusal::OutOfRange)?;
+        self.refuse_no_medium(medium)?;
+        match self.invalidate(medium, 0, id, Mark::Deleted) {
+            0 => Err(Refusal::Absent),
+            invalidated => Ok(invalidated),
+        }
+    }
+
+    pub fn lookup(&self, medium: &[u32], id: u32) -> Result<Found, Missed> {
+        self.refuse_unsound()?;
+        refuse_if(id >= CONTENT_RANGE, Refusal::OutOfRange)?;
+        self.refuse_no_medium(medium)?;
+        let mut opened = 0;
+        for server in (0..self.count as usize).rev() {
+            if !self.is_readable(server, id) {
+                continue;
+            }
+            opened += 1;
+            let entries = self.entries(medium, server);
+            if let Some(entry) = entries.iter().rev().find(|entry| is_live(entry, id)) {
+                return value_of(entry[1], opened);
+            }
+        }
+        Err(Missed {
+            refusal: Refusal::Absent,
+            opened,
+        })
+    }
+
+    fn refuse_unsound(&self) -> Result<(), Refusal> {
+        refuse_if(!self.is_sound(), Refusal::Unsound)
+    }
+
+    fn refuse_no_medium(&self, medium: &[u32]) -> Result<(), Refusal> {
+        refuse_if(self.count == 0, Refusal::NoSuchServer)?;
+        self.refuse_short(medium, self.count as usize)
+    }
+
+    fn refuse_short(&self, medium: &[u32], servers: usize) -> Result<(), Refusal> {
+        let needed = 3 * self.capacity as usize * servers;
+        refuse_if(medium.len() < needed, Refusal::ShortMedium)
+    }
+
+    fn first_entry(&self, server: usize) -> usize {
+        self.capacity as usize * server
+    }
+
+    /// The entries that a server has used.
+    fn entries<'m>(&self, medium: &'m [u32], server: usize) -> &'m [Entry] {
+        let first = self.first_entry(server);
+        &medium.as_chunks().0[first..first + self.used[server] as usize]
+    }
+
+    fn read_p(&self, server: usize) -> Fraction {
+        Fraction::new(self.read_numerators[server], self.read_denominators[server])
+    }
+
+    fn set_read_p(&mut self, server: usize, fraction: Fraction) {
+        self.read_numerators[server] = fraction.numerator;
+        self.read_denominators[server] = fraction.denominator;
+    }
+
+    fn is_readable(&self, server: usize, id: u32) -> bool {
+        self.read_p(server).exceeds(draw(id, server))
+    }
+
+    /// Each server whose WriteP is strictly above its ReadP takes it.
+    fn raise_read_p(&mut self) {
+        let mut sum = 0;
+        for server in 0..self.count as usize {
+            let weight = self.weights[server];
+            sum += weight;
+            let write_p = share(server, weight, sum);
+            if write_p.is_above(self.read_p(server)) {
+                self.set_read_p(server, write_p);
+            }
+        }
+    }
+
+    /// Marks the live entries of an id on the readable servers from the highest down to `lowest`.
+    fn invalidate(&self, medium: &mut [u32], lowest: usize, id: u32, mark: Mark) -> u32 {
+        let mut invalidated = 0;
+        for server in (lowest..self.count as usize).rev() {
+            if !self.is_readable(server, id) {
+                continue;
+            }
+            let first = self.first_entry(server);
+            let used = self.used[server] as usize;
+            for entry in &mut medium.as_chunks_mut().0[first..first + used] {
+                if is_live(entry, id) {
+                    entry[2] = mark.word();
+                    invalidated += 1;
+                }
+            }
+        }
+        invalidated
+    }
+}
+
+/// The answer of a lookup that found a live entry with this value word.
+fn value_of(word: u32, opened: u32) -> Result<Found, Missed> {
+    if word >> 30 != VALUE_TAG {
+        return Err(Missed {
+            refusal: Refusal::Damaged,
+            opened,
+        });
+    }
+    Ok(Found {
+        value: word % CONTENT_RANGE,
+        opened,
+    })
+}

@@ -1,0 +1,225 @@
+//! Calls and replies as words, and lists of them run on the Rust implementation. The layout is
+//! that of the proved functions: three words a call, five a reply, 1,026 a table.
+
+use crate::archive::{Missed, Refusal, Table};
+use crate::placement::MAX_SERVERS;
+
+pub const CALL_WORDS: usize = 3;
+pub const REPLY_WORDS: usize = 5;
+pub const TABLE_WORDS: usize = 2 + 4 * MAX_SERVERS;
+
+#[derive(Clone, Copy, Debug, PartialEq, Eq)]
+pub enum Call {
+    AddServer {
+        weight: u32,
+    },
+    Reweight {
+        server: u32,
+        weight: u32,
+    },
+    Write {
+        id: u32,
+        value: u32,
+    },
+    Delete {
+        id: u32,
+    },
+    Lookup {
+        id: u32,
+    },
+    /// A number that is no call.
+    None {
+        number: u32,
+    },
+}
+
+impl Call {
+    pub fn words(self) -> [u32; CALL_WORDS] {
+        match self {
+            Call::AddServer { weight } => [1, weight, 0],
+            Call::Reweight { server, weight } => [2, server, weight],
+            Call::Write { id, value } => [3, id, value],
+            Call::Delete { id } => [4, id, 0],
+            Call::Lookup { id } => [5, id, 0],
+            Call::None { number } => [number, 0, 0],
+        }
+    }
+
+    pub fn from_words([number, first, second]: [u32; CALL_WORDS]) -> Self {
+        match number {
+            1 => Call::AddServer { weight: first },
+            2 => Call::Reweight {
+                server: first,
+                weight: second,
+            },
+            3 => Call::Write {
+                id: first,
+                value: second,
+            },
+            4 => Call::Delete { id: first },
+            5 => Call::Lookup { id: first },
+            _ => Call::None { number },
+        }
+    }
+}
+
+/// The words of a list.
+pub fn encode(list: &[Call]) -> Vec<u32> {
+    list.iter().flat_map(|call| call.words()).collect()
+}
+
+/// A refusal number or 0, and what the answer carries; the rest is 0.
+#[derive(Clone, Copy, Debug, Default, PartialEq, Eq)]
+pub struct Reply {
+    pub refusal: u32,
+    pub server: u32,
+    pub value: u32,
+    pub opened: u32,
+    pub invalidated: u32,
+}
+
+impl Reply {
+    pub const NO_CALL: Reply = Reply {
+        refusal: u32::MAX,
+        server: 0,
+        value: 0,
+        opened: 0,
+        invalidated: 0,
+    };
+
+    pub fn refused(refusal: Refusal) -> Self {
+        Reply {
+            refusal: refusal as u32,
+            ..Reply::default()
+        }
+    }
+
+    pub fn words(self) -> [u32; REPLY_WORDS] {
+        [
+            self.refusal,
+            self.server,
+            self.value,
+            self.opened,
+            self.invalidated,
+        ]
+    }
+}
+
+impl From<Missed> for Reply {
+    fn from(missed: Missed) -> Self {
+        Reply {
+            opened: missed.opened,
+            ..Reply::refused(missed.refusal)
+        }
+    }
+}
+
+impl Table {
+    pub fn from_words(words: &[u32; TABLE_WORDS]) -> Self {
+        let part = |at: usize| -> [u32; MAX_SERVERS] {
+            let start = 2 + at * MAX_SERVERS;
+            words[start..start + MAX_SERVERS].try_into().expect("256")
+        };
+        Table {
+            capacity: words[0],
+            count: words[1],
+            weights: part(0),
+            used: part(1),
+            read_numerators: part(2),
+            read_denominators: part(3),
+        }
+    }
+
+    pub fn store(&self, words: &mut [u32; TABLE_WORDS]) {
+        words[0] = self.capacity;
+        words[1] = self.count;
+        let parts = [
+            &self.weights,
+            &self.used,
+            &self.read_numerators,
+            &self.read_denominators,
+        ];
+        for (words, part) in words[2..].chunks_exact_mut(MAX_SERVERS).zip(parts) {
+            words.copy_from_slice(part);
+        }
+    }
+
+    pub fn words(&self) -> [u32; TABLE_WORDS] {
+        let mut words = [0; TABLE_WORDS];
+        self.store(&mut words);
+        words
+    }
+
+    pub fn run(&mut self, medium: &mut [u32], call: Call) -> Reply {
+        let result = match call {
+            Call::AddServer { weight } => self.add_server(medium, weight).map(|server| Reply {
+                server,
+                ..Reply::default()
+            }),
+            Call::Reweight { server, weight } => {
+                self.reweight(server, weight).map(|server| Reply {
+                    server,
+                    ..Reply::default()
+                })
+            }
+            Call::Write { id, value } => self.write(medium, id, value).map(|written| Reply {
+                server: written.server,
+                invalidated: written.invalidated,
+                ..Reply::default()
+            }),
+            Call::Delete { id } => self.delete(medium, id).map(|invalidated| Reply {
+                invalidated,
+                ..Reply::default()
+            }),
+            Call::Lookup { id } => return self.run_lookup(medium, id),
+            Call::None { .. } => return Reply::NO_CALL,
+        };
+        result.unwrap_or_else(Reply::refused)
+    }
+
+    fn run_lookup(&self, medium: &[u32], id: u32) -> Reply {
+        match self.lookup(medium, id) {
+            Ok(found) => Reply {
+                value: found.value,
+                opened: found.opened,
+                ..Reply::default()
+            },
+            Err(missed) => missed.into(),
+        }
+    }
+
+    /// Runs as many calls as the words hold and the replies have room for.
+    fn run_all(&mut self, calls: &[u32], medium: &mut [u32], replies: &mut [u32]) -> usize {
+        let calls = calls.as_chunks().0;
+        let replies = replies.as_chunks_mut().0;
+        for (&call, reply) in calls.iter().zip(replies.iter_mut()) {
+            *reply = self.run(medium, Call::from_words(call)).words();
+        }
+        calls.len().min(replies.len())
+    }
+}
+
+/// Capacity, calls, medium, replies; answers how many calls ran.
+pub type Replay = fn(u32, &[u32], &mut [u32], &mut [u32]) -> usize;
+
+/// Table, calls, medium, replies; answers how many calls ran.
+pub type Resume = fn(&mut [u32], &[u32], &mut [u32], &mut [u32]) -> usize;
+
+/// The Rust implementation behind the interface of the proved `replay`.
+pub fn replay(capacity: u32, calls: &[u32], medium: &mut [u32], replies: &mut [u32]) -> usize {
+    match Table::start(capacity) {
+        Ok(mut table) => table.run_all(calls, medium, replies),
+        Err(_) => 0,
+    }
+}
+
+/// The Rust implementation behind the interface of the proved `resume`.
+pub fn resume(table: &mut [u32], calls: &[u32], medium: &mut [u32], replies: &mut [u32]) -> usize {
+    let Some(words) = table.first_chunk_mut() else {
+        return 0;
+    };
+    let mut table = Table::from_words(words);
+    let ran = table.run_all(calls, medium, replies);
+    table.store(words);
+    ran
+}

@@ -1,0 +1,276 @@
+//! One list of calls, run on the proved code and on the Rust implementation, and where the medium
+//! began blank on the plain ledger too. Every reply and every word is compared.
+
+use std::fmt::Write;
+
+use crate::archive::{Table, BLANK};
+use crate::calls::{self, Call, REPLY_WORDS, TABLE_WORDS};
+use crate::ledger::Ledger;
+use crate::placement::{self, MAX_SERVERS};
+use crate::proved;
+
+/// Where two sides differ, in words for the reader.
+pub type Difference = String;
+
+/// What was met so far, by the proved code's replies.
+#[derive(Default)]
+pub struct Tally {
+    pub lists: u64,
+    pub calls: u64,
+    pub accepted: u64,
+    pub refusals: [u64; 11],
+    pub no_calls: u64,
+    pub picks: u64,
+}
+
+impl Tally {
+    fn count(&mut self, replies: &[u32]) {
+        self.lists += 1;
+        for reply in replies.chunks_exact(REPLY_WORDS) {
+            self.calls += 1;
+            match reply[0] {
+                0 => self.accepted += 1,
+                number @ 1..=10 => self.refusals[number as usize] += 1,
+                _ => self.no_calls += 1,
+            }
+        }
+    }
+}
+
+/// Buffers hold this before a run, so that a word which should not be stored shows.
+const UNSTORED: u32 = 0x5555_5555;
+
+/// What one side left.
+struct Outcome {
+    ran: usize,
+    replies: Vec<u32>,
+    medium: Vec<u32>,
+    table: Vec<u32>,
+}
+
+impl Outcome {
+    fn replies_run(&self) -> &[u32] {
+        &self.replies[..self.ran * REPLY_WORDS]
+    }
+}
+
+/// A list as words, with room for replies; both may be cut short.
+pub struct Encoded {
+    words: Vec<u32>,
+    room: usize,
+}
+
+impl Encoded {
+    pub fn new(list: &[Call]) -> Self {
+        Encoded {
+            words: calls::encode(list),
+            room: list.len() * REPLY_WORDS,
+        }
+    }
+
+    /// The same with fewer words and less room.
+    pub fn cut(mut self, words: usize, room: usize) -> Self {
+        self.words.truncate(self.words.len().saturating_sub(words));
+        self.room = self.room.saturating_sub(room);
+        self
+    }
+
+    fn replay(&self, run: calls::Replay, capacity: u32, medium: &[u32]) -> Outcome {
+        let mut medium = medium.to_vec();
+        let mut replies = vec![UNSTORED; self.room];
+        let ran = run(capacity, &self.words, &mut medium, &mut replies);
+        Outcome {
+            ran,
+            replies,
+            medium,
+            table: Vec::new(),
+        }
+    }
+
+    fn resume(&self, run: calls::Resume, table: &[u32], medium: &[u32]) -> Outcome {
+        let mut table = table.to_vec();
+        let mut medium = medium.to_vec();
+        let mut replies = vec![UNSTORED; self.room];
+        let ran = run(&mut table, &self.words, &mut medium, &mut replies);
+        Outcome {
+            ran,
+            replies,
+            medium,
+            table,
+        }
+    }
+}
+
+fn first_difference(proved: &[u32], rust: &[u32]) -> Option<usize> {
+    (0..proved.len()).find(|&at| proved[at] != rust[at])
+}
+
+fn compare_words(what: &str, proved: &[u32], rust: &[u32]) -> Result<(), Difference> {
+    match first_difference(proved, rust) {
+        None => Ok(()),
+        Some(at) => Err(format!(
+            "{what}, word {at}: proved {}, Rust {}",
+            proved[at], rust[at]
+        )),
+    }
+}
+
+fn compare_replies(proved: &[u32], rust: &[u32]) -> Result<(), Difference> {
+    let (proved, _) = proved.as_chunks::<REPLY_WORDS>();
+    let (rust, _) = rust.as_chunks::<REPLY_WORDS>();
+    match (0..proved.len()).find(|&at| proved[at] != rust[at]) {
+        None => Ok(()),
+        Some(at) => Err(format!(
+            "call {at}: proved {:?}, Rust {:?}",
+            proved[at], rust[at]
+        )),
+    }
+}
+
+fn compare_outcomes(proved: &Outcome, rust: &Outcome) -> Result<(), Difference> {
+    compare_replies(&proved.replies, &rust.replies)?;
+    compare_words("replies", &proved.replies, &rust.replies)?;
+    compare_words("medium", &proved.medium, &rust.medium)?;
+    compare_words("table", &fitted(&proved.table), &fitted(&rust.table))?;
+    if proved.ran != rust.ran {
+        return Err(format!(
+            "calls run: proved {}, Rust {}",
+            proved.ran, rust.ran
+        ));
+    }
+    Ok(())
+}
+
+/// The words of a table that count: positions at or above its count are left out.
+fn fitted(table: &[u32]) -> Vec<u32> {
+    if table.len() < TABLE_WORDS {
+        return table.to_vec();
+    }
+    let count = (table[1] as usize).min(MAX_SERVERS);
+    let mut words = table[..2].to_vec();
+    for part in table[2..TABLE_WORDS].chunks_exact(MAX_SERVERS) {
+        words.extend(&part[..count]);
+    }
+    words.extend(&table[TABLE_WORDS..]);
+    words
+}
+
+/// The difference with what it takes to see it again.
+fn described(text: Difference, capacity: u32, medium: &[u32], list: &[Call]) -> Difference {
+    let mut out = format!(
+        "{text}\ncapacity {capacity}, {} words of medium\n",
+        medium.len()
+    );
+    for (at, word) in medium.iter().enumerate().filter(|(_, &word)| word != BLANK) {
+        writeln!(out, "medium word {at} was {word}").expect("a string");
+    }
+    for (at, call) in list.iter().enumerate() {
+        writeln!(out, "{at}: {call:?}").expect("a string");
+    }
+    out
+}
+
+/// Runs `replay` on both sides, from a start on a medium as given.
+pub fn run_replay(
+    capacity: u32,
+    medium: &[u32],
+    list: &[Call],
+    encoded: &Encoded,
+    tally: &mut Tally,
+) -> Result<(), Difference> {
+    let proved = encoded.replay(proved::replay, capacity, medium);
+    let rust = encoded.replay(calls::replay, capacity, medium);
+    tally.count(proved.replies_run());
+    compare_outcomes(&proved, &rust).map_err(|text| described(text, capacity, medium, list))
+}
+
+/// Runs `replay` on both sides on a blank medium, and the ledger.
+pub fn run_blank(
+    capacity: u32,
+    medium_len: usize,
+    list: &[Call],
+    tally: &mut Tally,
+) -> Result<(), Difference> {
+    let medium = vec![BLANK; medium_len];
+    let encoded = Encoded::new(list);
+    let proved = encoded.replay(proved::replay, capacity, &medium);
+    let rust = encoded.replay(calls::replay, capacity, &medium);
+    tally.count(proved.replies_run());
+    let mut ledger = Ledger::new(capacity, medium_len);
+    compare_outcomes(&proved, &rust)
+        .and_then(|()| compare_ledger(&mut ledger, list, proved.replies_run()))
+        .and_then(|()| compare_live(&proved.medium, ledger.accepted_writes()))
+        .map_err(|text| described(text, capacity, &medium, list))
+}
+
+/// The ledger says nothing of invalidated entries.
+fn compare_ledger(ledger: &mut Ledger, list: &[Call], replies: &[u32]) -> Result<(), Difference> {
+    let replies = replies.chunks_exact(REPLY_WORDS);
+    for (at, (&call, reply)) in list.iter().zip(replies).enumerate() {
+        let expected = ledger.enter(call).words();
+        if reply[..REPLY_WORDS - 1] != expected[..REPLY_WORDS - 1] {
+            return Err(format!(
+                "call {at}, {call:?}: proved {reply:?}, ledger {expected:?}"
+            ));
+        }
+    }
+    Ok(())
+}
+
+/// The live entries of all ids together are at most the accepted writes.
+fn compare_live(medium: &[u32], writes: usize) -> Result<(), Difference> {
+    let is_live = |entry: &&[u32]| entry[0] != BLANK && entry[2] == BLANK;
+    let live = medium.chunks_exact(3).filter(is_live).count();
+    if live > writes {
+        return Err(format!("{live} live entries after {writes} writes"));
+    }
+    Ok(())
+}
+
+/// A table and a medium that both sides resume from, and that a test may alter in between.
+pub struct Lent {
+    pub table: Vec<u32>,
+    pub medium: Vec<u32>,
+}
+
+impl Lent {
+    pub fn new(table: &Table, medium: Vec<u32>) -> Self {
+        Lent {
+            table: table.words().to_vec(),
+            medium,
+        }
+    }
+
+    /// Runs `resume` on both sides and keeps what both left.
+    pub fn run(&mut self, list: &[Call], tally: &mut Tally) -> Result<(), Difference> {
+        let encoded = Encoded::new(list);
+        let proved = encoded.resume(proved::resume, &self.table, &self.medium);
+        let rust = encoded.resume(calls::resume, &self.table, &self.medium);
+        tally.count(proved.replies_run());
+        compare_outcomes(&proved, &rust).map_err(|text| {
+            let capacity = self.table.first().copied().unwrap_or(0);
+            let text = described(text, capacity, &self.medium, list);
+            format!("{text}table before: {:?}\n", fitted(&self.table))
+        })?;
+        self.table = proved.table;
+        self.medium = proved.medium;
+        Ok(())
+    }
+}
+
+/// Picks by the proved code and by the Rust implementation, with room for so many servers.
+pub fn run_picks(
+    weights: &[u32],
+    ids: &[u32],
+    room: usize,
+    tally: &mut Tally,
+) -> Result<(), Difference> {
+    let mut ours = vec![UNSTORED; room];
+    let mut theirs = ours.clone();
+    let our_count = proved::picks(weights, ids, &mut ours);
+    let their_count = placement::picks(weights, ids, &mut theirs);
+    tally.picks += our_count as u64;
+    compare_words("picks", &ours, &theirs)
+        .and_then(|()| compare_words("picked", &[our_count as u32], &[their_count as u32]))
+        .map_err(|text| format!("{text}\nweights {weights:?}\nids {ids:?}\n"))
+}

@@ -1,0 +1,200 @@
+//! The plain ledger of document 01: fed the capacity, the medium's length and the arguments of
+//! the calls, and nothing from a table or a medium. Everything is worked out anew from its lists.
+
+use crate::archive::{Refusal, CONTENT_RANGE};
+use crate::calls::{Call, Reply};
+use crate::placement::{draw, Fraction, MAX_SERVERS};
+
+enum Event {
+    Wrote { id: u32, value: u32, server: usize },
+    Deleted { id: u32 },
+}
+
+/// The last write of an id that no delete followed.
+struct Standing {
+    value: u32,
+    server: usize,
+}
+
+pub struct Ledger {
+    capacity: u32,
+    medium_len: usize,
+    weights: Vec<u32>,
+    greatest: Vec<Fraction>,
+    events: Vec<Event>,
+}
+
+impl Ledger {
+    pub fn new(capacity: u32, medium_len: usize) -> Self {
+        Ledger {
+            capacity,
+            medium_len,
+            weights: Vec::new(),
+            greatest: Vec::new(),
+            events: Vec::new(),
+        }
+    }
+
+    /// The ledger's reply; it says nothing of invalidated entries.
+    pub fn enter(&mut self, call: Call) -> Reply {
+        match call {
+            Call::AddServer { weight } => self.add_server(weight),
+            Call::Reweight { server, weight } => self.reweight(server, weight),
+            Call::Write { id, value } => self.write(id, value),
+            Call::Delete { id } => self.delete(id),
+            Call::Lookup { id } => self.lookup(id),
+            Call::None { .. } => Reply::NO_CALL,
+        }
+    }
+
+    pub fn accepted_writes(&self) -> usize {
+        let is_write = |event: &&Event| matches!(event, Event::Wrote { .. });
+        self.events.iter().filter(is_write).count()
+    }
+
+    fn add_server(&mut self, weight: u32) -> Reply {
+        let server = self.weights.len();
+        if weight > self.capacity {
+            return Reply::refused(Refusal::OutOfRange);
+        }
+        if server == MAX_SERVERS {
+            return Reply::refused(Refusal::TooManyServers);
+        }
+        if self.is_short(server + 1) {
+            return Reply::refused(Refusal::ShortMedium);
+        }
+        self.weights.push(weight);
+        self.greatest.push(self.write_p(server));
+        Reply {
+            server: server as u32,
+            ..Reply::default()
+        }
+    }
+
+    fn reweight(&mut self, server: u32, weight: u32) -> Reply {
+        if weight > self.capacity {
+            return Reply::refused(Refusal::OutOfRange);
+        }
+        if server as usize >= self.weights.len() {
+            return Reply::refused(Refusal::NoSuchServer);
+        }
+        if weight > self.capacity - self.used(server as usize) {
+            return Reply::refused(Refusal::OverFree);
+        }
+        self.weights[server as usize] = weight;
+        for k in 0..self.weights.len() {
+            let today = self.write_p(k);
+            if today.is_above(self.greatest[k]) {
+                self.greatest[k] = today;
+            }
+        }
+        Reply {
+            server,
+            ..Reply::default()
+        }
+    }
+
+    fn write(&mut self, id: u32, value: u32) -> Reply {
+        if id >= CONTENT_RANGE || value >= CONTENT_RANGE {
+            return Reply::refused(Refusal::OutOfRange);
+        }
+        if let Some(refusal) = self.no_medium() {
+            return Reply::refused(refusal);
+        }
+        let server = self.write_server(id);
+        if self.used(server) == self.capacity {
+            return Reply::refused(Refusal::ServerFull);
+        }
+        self.events.push(Event::Wrote { id, value, server });
+        Reply {
+            server: server as u32,
+            ..Reply::default()
+        }
+    }
+
+    fn delete(&mut self, id: u32) -> Reply {
+        if id >= CONTENT_RANGE {
+            return Reply::refused(Refusal::OutOfRange);
+        }
+        if let Some(refusal) = self.no_medium() {
+            return Reply::refused(refusal);
+        }
+        if self.standing(id).is_none() {
+            return Reply::refused(Refusal::Absent);
+        }
+        self.events.push(Event::Deleted { id });
+        Reply::default()
+    }
+
+    fn lookup(&self, id: u32) -> Reply {
+        if id >= CONTENT_RANGE {
+            return Reply::refused(Refusal::OutOfRange);
+        }
+        if let Some(refusal) = self.no_medium() {
+            return Reply::refused(refusal);
+        }
+        match self.standing(id) {
+            Some(Standing { value, server }) => Reply {
+                value,
+                opened: self.readable_from(server, id),
+                ..Reply::default()
+            },
+            None => Reply {
+                opened: self.readable_from(0, id),
+                ..Reply::refused(Refusal::Absent)
+            },
+        }
+    }
+
+    fn no_medium(&self) -> Option<Refusal> {
+        if self.weights.is_empty() {
+            return Some(Refusal::NoSuchServer);
+        }
+        self.is_short(self.weights.len())
+            .then_some(Refusal::ShortMedium)
+    }
+
+    fn is_short(&self, servers: usize) -> bool {
+        self.medium_len < 3 * self.capacity as usize * servers
+    }
+
+    fn write_p(&self, server: usize) -> Fraction {
+        if server == 0 {
+            return Fraction::ONE;
+        }
+        if self.weights[server] == 0 {
+            return Fraction::ZERO;
+        }
+        Fraction::new(self.weights[server], self.weights[..=server].iter().sum())
+    }
+
+    fn write_server(&self, id: u32) -> usize {
+        let exceeds = |&server: &usize| self.write_p(server).exceeds(draw(id, server));
+        let servers = 0..self.weights.len();
+        servers.rev().find(exceeds).expect("server 0 exceeds")
+    }
+
+    fn used(&self, k: usize) -> u32 {
+        let is_on = |event: &&Event| matches!(event, Event::Wrote { server, .. } if *server == k);
+        self.events.iter().filter(is_on).count() as u32
+    }
+
+    fn standing(&self, wanted: u32) -> Option<Standing> {
+        for event in self.events.iter().rev() {
+            match *event {
+                Event::Wrote { id, value, server } if id == wanted => {
+                    return Some(Standing { value, server });
+                }
+                Event::Deleted { id } if id == wanted => return None,
+                _ => {}
+            }
+        }
+        None
+    }
+
+    /// How many servers from `lowest` upward have a greatest WriteP that exceeds the draw.
+    fn readable_from(&self, lowest: usize, id: u32) -> u32 {
+        let exceeds = |&server: &usize| self.greatest[server].exceeds(draw(id, server));
+        (lowest..self.weights.len()).filter(exceeds).count() as u32
+    }
+}

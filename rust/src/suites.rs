@@ -1,0 +1,231 @@
+//! The kinds of lists that are compared.
+
+use crate::archive::{Table, BLANK, CONTENT_RANGE};
+use crate::calls::{Call, TABLE_WORDS};
+use crate::differ::{run_blank, run_picks, run_replay, Difference, Encoded, Lent, Tally};
+use crate::fractions::{near_fraction, on_fraction};
+use crate::lists::Shape;
+use crate::placement::{MAX_CAPACITY, MAX_SERVERS};
+use crate::random::Random;
+
+/// One list, or a few that belong together, from a generator of its own.
+type Suite = fn(&mut Random, &mut Tally) -> Result<(), Difference>;
+
+/// Each suite with its share of the calls asked for, in percent.
+pub const SUITES: [(&str, Suite, u64); 7] = [
+    ("blank media", blank, 40),
+    ("damaged media", damaged, 15),
+    ("foreign tables", foreign, 15),
+    ("256 servers", many_servers, 10),
+    ("draws on a fraction", on_fraction, 10),
+    ("draws next to a fraction", near_fraction, 5),
+    ("refusal edges", edges, 5),
+];
+
+fn blank(random: &mut Random, tally: &mut Tally) -> Result<(), Difference> {
+    let shape = if random.one_in(8) {
+        Shape::random(random, 48, 24)
+    } else {
+        Shape::random(random, 8, 6)
+    };
+    let length = random.between(1, 400) as usize;
+    let medium_len = shape.medium_len(random);
+    let list = shape.list(random, length);
+    run_blank(shape.capacity, medium_len, &list, tally)
+}
+
+/// A word that a medium might hold: a whole one, a wrong kind or anything.
+fn any_word(random: &mut Random, shape: &Shape) -> u32 {
+    match random.below(6) {
+        0 => BLANK,
+        1 => shape.id(random),
+        2 => 1 << 30 | random.below(CONTENT_RANGE),
+        3 => 2 << 30 | random.between(1, 2),
+        4 => random.pick(&[0, 1 << 30, 2 << 30, 3 << 30, BLANK - 1]),
+        _ => random.word(),
+    }
+}
+
+fn damage(random: &mut Random, shape: &Shape, medium: &mut [u32]) {
+    for _ in 0..random.between(1, 3) {
+        let at = random.below(medium.len() as u32) as usize;
+        medium[at] = any_word(random, shape);
+    }
+}
+
+/// A list over a medium whose words are altered before it and between its calls.
+fn damaged(random: &mut Random, tally: &mut Tally) -> Result<(), Difference> {
+    let shape = Shape::random(random, 6, 6);
+    let mut medium = vec![BLANK; shape.medium_len(random)];
+    if random.one_in(4) {
+        damage(random, &shape, &mut medium);
+        let list = shape.list(random, 100);
+        return run_replay(shape.capacity, &medium, &list, &Encoded::new(&list), tally);
+    }
+    let table = Table::start(shape.capacity).expect("in range");
+    let mut lent = Lent::new(&table, medium);
+    lent.run(&shape.list(random, 12), tally)?;
+    for _ in 0..random.between(1, 24) {
+        damage(random, &shape, &mut lent.medium);
+        let length = random.between(1, 8) as usize;
+        let list: Vec<Call> = (0..length).map(|_| shape.call(random)).collect();
+        lent.run(&list, tally)?;
+    }
+    Ok(())
+}
+
+/// Lists over tables that the calls did not leave: older copies, altered ones, any words.
+fn foreign(random: &mut Random, tally: &mut Tally) -> Result<(), Difference> {
+    let shape = Shape::random(random, 6, 6);
+    let medium = vec![BLANK; shape.medium_len(random)];
+    let table = Table::start(shape.capacity).expect("in range");
+    let mut lent = Lent::new(&table, medium);
+    lent.run(&shape.list(random, 12), tally)?;
+    let mut older = lent.table.clone();
+    for _ in 0..random.between(1, 24) {
+        let kept = lent.table.clone();
+        match random.below(8) {
+            0..=2 => alter(random, &shape, &mut lent.table),
+            3 | 4 => lent.table.clone_from(&older),
+            5 => older.clone_from(&lent.table),
+            6 => raise_used(random, &mut lent.table),
+            _ => lent.table = any_table(random, &shape),
+        }
+        let length = random.between(1, 8) as usize;
+        let list: Vec<Call> = (0..length).map(|_| shape.call(random)).collect();
+        lent.run(&list, tally)?;
+        if random.one_in(2) {
+            lent.table = kept;
+        }
+    }
+    Ok(())
+}
+
+/// A number that is an edge of a table's rules or near one.
+fn table_number(random: &mut Random, shape: &Shape) -> u32 {
+    match random.below(4) {
+        0 => random.below(shape.capacity + 2),
+        1 => random.pick(&[0, 1, 2, 256, 257, 65_536, 65_537, 1 << 24, (1 << 24) + 1]),
+        2 => shape.capacity,
+        _ => random.word() >> random.below(32),
+    }
+}
+
+/// Alters one word among those that are read, or the count, or the capacity.
+fn alter(random: &mut Random, shape: &Shape, table: &mut [u32]) {
+    let number = table_number(random, shape);
+    let count = table[1].clamp(1, MAX_SERVERS as u32);
+    let at = match random.below(8) {
+        0 => 0,
+        1 => 1,
+        part => {
+            let server = random.below(count) as usize;
+            2 + (part as usize % 4) * MAX_SERVERS + server
+        }
+    };
+    table[at] = number;
+}
+
+/// Says that a server used another number of entries than it did.
+fn raise_used(random: &mut Random, table: &mut [u32]) {
+    let capacity = table[0].min(MAX_CAPACITY);
+    let count = table[1].clamp(1, MAX_SERVERS as u32);
+    let server = random.below(count) as usize;
+    table[2 + MAX_SERVERS + server] = random.below(capacity + 1);
+}
+
+/// A table of any words, of which some are sound: weights and used in range, ReadP near 1.
+fn any_table(random: &mut Random, shape: &Shape) -> Vec<u32> {
+    let mut table = vec![0; TABLE_WORDS];
+    table[0] = shape.capacity;
+    table[1] = random.below(shape.servers + 1);
+    for server in 0..MAX_SERVERS {
+        let denominator = match random.below(4) {
+            0 => 1 << 24,
+            _ => random.between(1, 12),
+        };
+        let below = if server == 0 { 0 } else { random.below(4) };
+        table[2 + server] = random.below(shape.capacity + 1);
+        table[2 + MAX_SERVERS + server] = random.below(shape.capacity + 1);
+        table[2 + 2 * MAX_SERVERS + server] = denominator - below.min(denominator);
+        table[2 + 3 * MAX_SERVERS + server] = denominator;
+    }
+    if random.one_in(4) {
+        alter(random, shape, &mut table);
+    }
+    table
+}
+
+/// All 256 servers and one too many, small and full.
+fn many_servers(random: &mut Random, tally: &mut Tally) -> Result<(), Difference> {
+    let mut shape = Shape::random(random, 4, 1);
+    shape.servers = random.between(250, 260);
+    let medium_len = shape.medium_len(random);
+    let mut list: Vec<Call> = (0..shape.servers)
+        .map(|_| Call::AddServer {
+            weight: random.below(shape.capacity + 1),
+        })
+        .collect();
+    list.extend((0..1_000).map(|_| shape.call(random)));
+    run_blank(shape.capacity, medium_len, &list, tally)
+}
+
+const EDGES: [u32; 14] = [
+    0,
+    1,
+    2,
+    3,
+    255,
+    256,
+    257,
+    65_535,
+    65_536,
+    65_537,
+    CONTENT_RANGE - 1,
+    CONTENT_RANGE,
+    1 << 31,
+    u32::MAX,
+];
+
+/// Every argument an edge, capacities at both ends, lengths that hold no whole number of calls.
+fn edges(random: &mut Random, tally: &mut Tally) -> Result<(), Difference> {
+    let capacity = random.pick(&EDGES);
+    let servers = random.below(3) as usize;
+    let slack = random.below(3) as usize;
+    let medium = vec![BLANK; 3 * capacity.min(65_537) as usize * servers + slack];
+    let list: Vec<Call> = (0..1_000)
+        .map(|_| {
+            let words = [random.below(7), random.pick(&EDGES), random.pick(&EDGES)];
+            Call::from_words(words)
+        })
+        .collect();
+    let cut = [random.below(8) as usize, random.below(12) as usize];
+    let encoded = Encoded::new(&list).cut(cut[0], cut[1]);
+    run_replay(capacity, &medium, &list, &encoded, tally)?;
+    table_lengths(random, tally)?;
+    pick_edges(random, tally)
+}
+
+/// Tables lent with a word too few or too many.
+fn table_lengths(random: &mut Random, tally: &mut Tally) -> Result<(), Difference> {
+    let length = random.pick(&[0, 1, TABLE_WORDS - 1, TABLE_WORDS, TABLE_WORDS + 1]);
+    let mut lent = Lent {
+        table: vec![1; length],
+        medium: vec![BLANK; 3],
+    };
+    let id = random.below(CONTENT_RANGE);
+    lent.run(&[Call::Write { id, value: 1 }, Call::Lookup { id }], tally)
+}
+
+/// Picks over no weight, over too many, over one too great, and with too little room.
+fn pick_edges(random: &mut Random, tally: &mut Tally) -> Result<(), Difference> {
+    let weights: Vec<u32> = (0..random.pick(&[0, 1, 2, 255, 256, 257]))
+        .map(|_| match random.below(2_000) {
+            0 => random.pick(&EDGES),
+            _ => random.below(MAX_CAPACITY + 1),
+        })
+        .collect();
+    let ids: Vec<u32> = (0..random.below(40)).map(|_| random.word()).collect();
+    let room = random.below(40) as usize;
+    run_picks(&weights, &ids, room, tally)
+}
