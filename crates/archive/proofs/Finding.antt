@@ -1,6 +1,6 @@
 -- The running search step by step: the answer as what is left to search gives it, and no step changes it.
 -- Assumes nothing.
-use Prim.Native.Nat.{ℕ, zero, suc, _+_, _-_, _<_}
+use Prim.Native.Nat.{ℕ, zero, suc, _+_, _-_, _≤_, _<_}
 use mathlib.Core.Path.{_≡_, refl, sym, ap, _∙_}
 use mathlib.Core.Bool.{Bool, true, false, cond}
 use mathlib.Core.List.{List}
@@ -13,8 +13,9 @@ use Rattle.placement.specs.Draw.{modulus, drawOf}
 use Rattle.placement.specs.Fraction.{exceeds}
 use Rattle.placement.specs.Rule.{readable, takes}
 use Rattle.placement.proofs.Below.{highest-last}
-use Rattle.medium.specs.Entry.{live, Inside, AllInside}
+use Rattle.medium.specs.Entry.{bears, live, Inside, AllInside}
 use Rattle.medium.proofs.Places.{server-le}
+use Rattle.medium.proofs.Entries.{live-below}
 use Rattle.table.specs.declared.Table.{Table}
 use Rattle.table.specs.Sound.{usedOf, readP}
 use Rattle.archive.specs.declared.Found.{Found}
@@ -74,15 +75,18 @@ module _ (t : Table) (m : List ℕ) (id : ℕ) where
     unfolding serversLeft entriesLeft lastLive readable takes
     server-opened d = ap (after opened) (search-last k true l (sym e ∙ d)) ∙ after-opening opened (k - 1) (lastLive t m id (k - 1)) (searchBelow t m id (k - 1))
 
-  -- the highest entry left, likewise
-  module _ (opened k j : ℕ) (l : 0 < j) {r : Bool} (e : r ≡ live (t .capacity) (usedOf t k) m id k (j - 1)) where
+  -- the highest entry left, likewise; it is one of the used ones
+  module _ (opened k j : ℕ) (l : 0 < j) (u : j ≤ usedOf t k) {r : Bool} (e : r ≡ bears (t .capacity) m id k (j - 1)) where
+    live-here : live (t .capacity) (usedOf t k) m id k (j - 1) ≡ r
+    live-here = live-below (t .capacity) (usedOf t k) m id k (j - 1) (omega arith) ∙ sym e
+
     pub entry-skipped : r ≡ false → entriesLeft opened k j ≡ entriesLeft opened k (j - 1)
     unfolding entriesLeft
-    entry-skipped d = rw (highest-last (live (t .capacity) (usedOf t k) m id k) j false l (sym e ∙ d))
+    entry-skipped d = rw (highest-last (live (t .capacity) (usedOf t k) m id k) j false l (live-here ∙ d))
 
     pub entry-met : r ≡ true → entriesLeft opened k j ≡ At k (j - 1) opened
     unfolding entriesLeft within
-    entry-met d = rw (highest-last (live (t .capacity) (usedOf t k) m id k) j true l (sym e ∙ d))
+    entry-met d = rw (highest-last (live (t .capacity) (usedOf t k) m id k) j true l (live-here ∙ d))
 
   pub no-entry-left : (opened k : ℕ) → entriesLeft opened k 0 ≡ serversLeft opened k
   unfolding entriesLeft serversLeft within highest

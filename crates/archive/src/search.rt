@@ -42,11 +42,10 @@ pub fn find<'a>(
         };
         if placement::takes(read, id, k) {
             opened += 1;
-            let last = used[k] as usize;
-            j = last;
+            j = used[k] as usize;
             while 0 < j {
                 j -= 1;
-                if medium::is_live(medium, entries, last, id, k, j) {
+                if medium::bears(medium, entries, id, k, j) {
                     met = true;
                     break 'search;
                 }

@@ -1,7 +1,7 @@
 -- Out of and into the tests of an entry: that it bears an id, that it is live, that words are blank.
 -- Assumes nothing.
 use Prim.Native.Nat.{ℕ, _+_, _<_}
-use mathlib.Core.Path.{_≡_}
+use mathlib.Core.Path.{_≡_, _∙_}
 use mathlib.Core.Bool.{Bool, true, false}
 use mathlib.Core.List.{List}
 use lib.Dec.{ltb, eqb}
@@ -26,9 +26,13 @@ module _ (capacity : ℕ) (m : List ℕ) (id k j : ℕ) where
   bears-mark e = eqb-true _ _ (and-r (eqb (nth m (entryAt capacity k j)) (idWord id)) _ e)
 
 module _ (capacity used : ℕ) (m : List ℕ) (id k j : ℕ) where
-  pub live-i : j < used → bears capacity m id k j ≡ true → live capacity used m id k j ≡ true
+  -- below used an entry is live exactly if it bears the id
+  pub live-below : j < used → live capacity used m id k j ≡ bears capacity m id k j
   unfolding live
-  live-i a b = and-i _ _ (lt-ltb _ _ a) b
+  live-below l = rw (lt-ltb _ _ l)
+
+  pub live-i : j < used → bears capacity m id k j ≡ true → live capacity used m id k j ≡ true
+  live-i l b = live-below l ∙ b
 
   pub live-used : live capacity used m id k j ≡ true → j < used
   unfolding live

@@ -10,10 +10,10 @@ use lib.ListN.{length, set, length-set, length-append}
 use Rattle.placement.specs.Below.{nth, upward}
 use Rattle.placement.proofs.Below.{upward-out, upward-more}
 use Rattle.medium.specs.Word.{markWord}
-use Rattle.medium.specs.Entry.{entryAt, markAt, live}
+use Rattle.medium.specs.Entry.{entryAt, markAt, bears, live}
 use Rattle.medium.specs.Burn.{burnAll, marksOn, invalidations}
 use Rattle.medium.proofs.Places.{entry-apart}
-use Rattle.medium.proofs.Entries.{live-cong}
+use Rattle.medium.proofs.Entries.{bears-cong, live-below}
 use Rattle.medium.proofs.Burns.{burn-append, invalidations-append, invalidations-off}
 
 -- the addresses of the marks of the live entries below j
@@ -38,24 +38,27 @@ module _ (capacity used : ℕ) (m₀ : List ℕ) (id k content : ℕ) where
   more j true e = rw (upward-more (live capacity used m₀ id k) j true e, map-append)
   more j false e = rw (upward-more (live capacity used m₀ id k) j false e, map-append)
 
-  module _ (j : ℕ) (m : List ℕ) (n : ℕ) (inside : j < capacity) (done : Invalidated capacity used m₀ id k content j m n) where
+  module _ (j : ℕ) (m : List ℕ) (n : ℕ) (fits : used ≤ capacity) (below : j < used) (done : Invalidated capacity used m₀ id k content j m n) where
     -- no mark burned so far is a word of entry j
     apart : (q : ℕ) → q < 3 → List·Memᴰ (entryAt capacity k j + q) (marksBelow capacity used m₀ id k j) → ⊥
     unfolding marksBelow
     apart q l d =
         let i = Memᴰ·of-map (markAt capacity k) (upward (live capacity used m₀ id k) j) d in
         let o = upward-out (live capacity used m₀ id k) j (i .0) (i .1) in
-        let e = entry-apart capacity k (i .0) 2 k j q (omega (arith, o .0)) inside (omega arith) l (i .2) in
+        let e = entry-apart capacity k (i .0) 2 k j q (omega (arith, o .0)) (omega arith) (omega arith) l (i .2) in
         omega (arith, o .0, e .1)
 
     word-kept : (q : ℕ) → q < 3 → nth m (entryAt capacity k j + q) ≡ nth m₀ (entryAt capacity k j + q)
     word-kept q l = rw (done .words) (invalidations-off content m₀ (marksBelow capacity used m₀ id k j) (entryAt capacity k j + q) (apart q l))
 
-    live-kept : live capacity used m id k j ≡ live capacity used m₀ id k j
-    live-kept = live-cong capacity used m m₀ id k j (record { idSame = rw add-zero at (word-kept 0 (omega arith)); markSame = word-kept 2 (omega arith) })
+    -- so it bears the id now exactly if it was live
+    live-kept : bears capacity m id k j ≡ live capacity used m₀ id k j
+    live-kept =
+        bears-cong capacity m m₀ id k j (record { idSame = rw add-zero at (word-kept 0 (omega arith)); markSame = word-kept 2 (omega arith) })
+        ∙ sym (live-below capacity used m₀ id k j below)
 
     -- entry j is looked at
-    module _ (found : Bool) (test : found ≡ live capacity used m id k j) (m′ : List ℕ) (n′ : ℕ) where
+    module _ (found : Bool) (test : found ≡ bears capacity m id k j) (m′ : List ℕ) (n′ : ℕ) where
       pub one-more : found ≡ true → m′ ≡ set m (markAt capacity k j) (markWord content) → n′ ≡ n + 1 → Invalidated capacity used m₀ id k content (j + 1) m′ n′
       unfolding invalidations burnAll
       one-more e w c =

@@ -1,9 +1,9 @@
-// The words of the write-once medium: where an entry stands, whether it is live, whether words are blank, and the marks
+// The words of the write-once medium: where an entry stands, whether it bears an id, whether words are blank, and the marks
 // that invalidate an id's entries on one server.
 ghost use mathlib.Core.Path.{_≡_};
 ghost use Prim.Native.Nat.{_<_, _≤_, _+_};
 ghost use lib.ListN.{length};
-ghost use Rattle.medium.specs.Entry.{serverAt, entryAt, live, blankRun, Inside};
+ghost use Rattle.medium.specs.Entry.{serverAt, entryAt, bears, blankRun, Inside};
 ghost use Rattle.medium.specs.Burn.{burnAll, marksOn, invalidations};
 
 // A word that nothing was written to.
@@ -48,22 +48,12 @@ pub fn is_blank(medium: &[u32], from: usize, n: usize) -> bool
     true
 }
 
-// Whether an entry of a server with this many entries used is live for an id.
-pub fn is_live(
-    medium: &[u32],
-    capacity: usize,
-    used: usize,
-    id: u32,
-    server: usize,
-    entry: usize,
-) -> bool
+// Whether an entry's words bear an id and no mark; an entry below the used ones is live then.
+pub fn bears(medium: &[u32], capacity: usize, id: u32, server: usize, entry: usize) -> bool
     requires { ⌜ Inside capacity server (now medium) ⌝ }
     requires { ⌜ entry < capacity ⌝ }
-    ensures { λ r. ⌜ r ≡ live capacity used (now (medium .entry)) id server entry ⌝ }
+    ensures { λ r. ⌜ r ≡ bears capacity (now (medium .entry)) id server entry ⌝ }
 {
-    if used <= entry {
-        return false;
-    }
     let at = entry_at(capacity, server, entry);
     if medium[at] != id {
         return false;
@@ -89,7 +79,7 @@ pub fn invalidate_server(
     let mut n: usize = 0;
     let mut j: usize = 0;
     while j < used {
-        if is_live(medium, capacity, used, id, server, j) {
+        if bears(medium, capacity, id, server, j) {
             let at = entry_at(capacity, server, j);
             medium[at + 2] = 2147483648 + content;
             n += 1;

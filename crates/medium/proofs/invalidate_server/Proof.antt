@@ -21,14 +21,14 @@ abbrev μ-loop : tie.MeasureT-loop
 abbrev S : tie.At-loop Inv-loop μ-loop → tie.Start Inv-loop μ-loop
 S l = l .before .before
 
-abbrev L : tie.After-is-live Inv-loop μ-loop → tie.At-loop Inv-loop μ-loop
+abbrev L : tie.After-bears Inv-loop μ-loop → tie.At-loop Inv-loop μ-loop
 L c = c .before .before .before
 
 loop-holds : tie.Need-loop-holds Inv-loop μ-loop
 loop-holds c = let a = c .before .args in (search needs, none-done (a .capacity) (a .used) (a .medium .now) (a .id) (a .server) (a .content))
 
-is-live-requires : tie.Need-is-live-requires Inv-loop μ-loop
-is-live-requires c κs =
+bears-requires : tie.Need-bears-requires Inv-loop μ-loop
+bears-requires c κs =
     let l = c .before .before in
     let p = S l .pre .0 in
     (record { small = p .small; few = p .few; long = omega arith }, omega arith)
@@ -72,15 +72,15 @@ loop-again c =
     let l = L (c .before) in
     let a = S l .args in
     let m = l .loop .medium in
-    let t = c .before .is-live in
-    let inside : l .loop .j < a .capacity = omega arith in (
+    let t = c .before .bears in
+    let below : l .loop .j < a .used = omega arith in (
       search needs,
       ⊎-elim
           (λ w.
-          one-more (a .capacity) (a .used) (a .medium .now) (a .id) (a .server) (a .content) (l .loop .j) m (l .loop .n) inside (l .loop .inv .1)
+          one-more (a .capacity) (a .used) (a .medium .now) (a .id) (a .server) (a .content) (l .loop .j) m (l .loop .n) (S l .pre .1 .0) below (l .loop .inv .1)
           (t .result) (t .ensures) (c .if1 .medium) (c .if1 .n) (w .0 .taken) (w .2 ∙ ap (λ (i : ℕ). set m (i + 2) (markWord (a .content))) (w .1 .ensures)) (w .3))
           (λ w.
-          none-more (a .capacity) (a .used) (a .medium .now) (a .id) (a .server) (a .content) (l .loop .j) m (l .loop .n) inside (l .loop .inv .1)
+          none-more (a .capacity) (a .used) (a .medium .now) (a .id) (a .server) (a .content) (l .loop .j) m (l .loop .n) (S l .pre .1 .0) below (l .loop .inv .1)
           (t .result) (t .ensures) (c .if1 .medium) (c .if1 .n) (w .0 .left) (w .1) (w .2))
           (c .if1 .came),
     )
@@ -102,7 +102,7 @@ invalidate-server-spec =
     Inv-loop
     μ-loop
     loop-holds
-    is-live-requires
+    bears-requires
     entry-at-requires
     add-medium
     add-medium-2

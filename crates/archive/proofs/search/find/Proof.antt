@@ -17,14 +17,14 @@ use Rattle.archive.proofs.search.find.Statement.{statement}
 use Rattle.archive.proofs.search.find.Tie as tie
 
 abbrev Inv-loop : tie.InvT-loop
-Inv-loop capacity count used numerators denominators medium id entries met₀ opened j₀ k last met j =
-    (j ≤ last) × (met ≡ false)
+Inv-loop capacity count used numerators denominators medium id entries met₀ opened j₀ k met j =
+    (j ≤ nth used k) × (met ≡ false)
     × ((weights : List ℕ) →
     let t = tableOf capacity count weights used numerators denominators in
     foundBy (searchFor t medium id) ≡ entriesLeft t medium id opened k j)
 
 abbrev μ-loop : tie.MeasureT-loop
-μ-loop capacity count used numerators denominators medium id entries met₀ opened j₀ k last met j = j
+μ-loop capacity count used numerators denominators medium id entries met₀ opened j₀ k met j = j
 
 abbrev Inv-search : tie.InvT-search
 Inv-search capacity count used numerators denominators medium id entries met₀ opened₀ j₀ k₀ met opened j k =
@@ -46,7 +46,7 @@ Q c = c .before .before .before .before
 abbrev X : tie.At-loop Inv-loop μ-loop Inv-search μ-search → tie.After-takes Inv-loop μ-loop Inv-search μ-search
 X l = l .before .before .before
 
-abbrev L : tie.After-is-live Inv-loop μ-loop Inv-search μ-search → tie.At-loop Inv-loop μ-loop Inv-search μ-search
+abbrev L : tie.After-bears Inv-loop μ-loop Inv-search μ-search → tie.At-loop Inv-loop μ-loop Inv-search μ-search
 L c = c .before .before
 
 -- the server that the search stands at, and the table with these weights
@@ -69,17 +69,17 @@ search-holds c = (search needs, refl, λ ws. all-left _ _ _)
 sub-k : tie.Need-sub-k Inv-loop μ-loop Inv-search μ-search
 sub-k c = search needs
 
-mul-t16 : tie.Need-mul-t16 Inv-loop μ-loop Inv-search μ-search
-mul-t16 c = search needs
+mul-t15 : tie.Need-mul-t15 Inv-loop μ-loop Inv-search μ-search
+mul-t15 c = search needs
 
-element-copy-out-t19 : tie.Need-element-copy-out-t19 Inv-loop μ-loop Inv-search μ-search
-element-copy-out-t19 c = search needs
+element-copy-out-t18 : tie.Need-element-copy-out-t18 Inv-loop μ-loop Inv-search μ-search
+element-copy-out-t18 c = search needs
 
-mul-t20 : tie.Need-mul-t20 Inv-loop μ-loop Inv-search μ-search
-mul-t20 c = search needs
+mul-t19 : tie.Need-mul-t19 Inv-loop μ-loop Inv-search μ-search
+mul-t19 c = search needs
 
-element-copy-out-t23 : tie.Need-element-copy-out-t23 Inv-loop μ-loop Inv-search μ-search
-element-copy-out-t23 c = search needs
+element-copy-out-t22 : tie.Need-element-copy-out-t22 Inv-loop μ-loop Inv-search μ-search
+element-copy-out-t22 c = search needs
 
 takes-requires : tie.Need-takes-requires Inv-loop μ-loop Inv-search μ-search
 takes-requires c κs = search needs
@@ -87,18 +87,18 @@ takes-requires c κs = search needs
 add-opened : tie.Need-add-opened Inv-loop μ-loop Inv-search μ-search
 add-opened c = search needs
 
-mul-last : tie.Need-mul-last Inv-loop μ-loop Inv-search μ-search
-mul-last c = search needs
+mul-j : tie.Need-mul-j Inv-loop μ-loop Inv-search μ-search
+mul-j c = search needs
 
-element-copy-out-last : tie.Need-element-copy-out-last Inv-loop μ-loop Inv-search μ-search
-element-copy-out-last c = search needs
+element-copy-out-j : tie.Need-element-copy-out-j Inv-loop μ-loop Inv-search μ-search
+element-copy-out-j c = search needs
 
 -- that server has no more entries used than a server has
 used-here : (q : tie.At-search Inv-loop μ-loop Inv-search μ-search) → 0 < q .search .k → nth (S q .args .used .now) (K q) ≤ S q .args .capacity
 used-here q l = S q .pre .fits (K q) (omega arith)
 
-cast-last : tie.Need-cast-last Inv-loop μ-loop Inv-search μ-search
-cast-last c = let q = Q (c .before .before) in omega (arith, used-here q (search needs))
+cast-j : tie.Need-cast-j Inv-loop μ-loop Inv-search μ-search
+cast-j c = let q = Q (c .before .before) in omega (arith, used-here q (search needs))
 
 loop-holds : tie.Need-loop-holds Inv-loop μ-loop Inv-search μ-search
 loop-holds c =
@@ -125,8 +125,8 @@ search-again c =
 sub-j : tie.Need-sub-j Inv-loop μ-loop Inv-search μ-search
 sub-j c = search needs
 
-is-live-requires : tie.Need-is-live-requires Inv-loop μ-loop Inv-search μ-search
-is-live-requires c κs =
+bears-requires : tie.Need-bears-requires Inv-loop μ-loop Inv-search μ-search
+bears-requires c κs =
     let q = Q (X (c .before)) in
     let a = S q .args in
     let u = used-here q (search needs) in
@@ -141,7 +141,7 @@ loop-again c =
     let q = Q (X l) in (
       search needs,
       l .loop .inv .1,
-      λ ws. l .loop .inv .2 ws ∙ entry-skipped (T q ws) (M q) (N q) (q .search .opened + 1) (K q) (l .loop .j) (search needs) (c .before .is-live .ensures) (c .if2 .left),
+      λ ws. l .loop .inv .2 ws ∙ entry-skipped (T q ws) (M q) (N q) (q .search .opened + 1) (K q) (l .loop .j) (search needs) (search needs) (c .before .bears .ensures) (c .if2 .left),
     )
 
 search-less-2 : tie.Need-search-less-2 Inv-loop μ-loop Inv-search μ-search
@@ -165,7 +165,7 @@ returns c ws =
     (λ w.
     let l = w .6 in
     let e : foundBy (searchFor (T q ws) (M q) (N q)) ≡ At (K q) (l .j - 1) (q .search .opened + 1) =
-    l .inv .2 ws ∙ entry-met (T q ws) (M q) (N q) (q .search .opened + 1) (K q) (l .j) (w .7 .taken) (w .8 .ensures) (w .9 .taken) in
+    l .inv .2 ws ∙ entry-met (T q ws) (M q) (N q) (q .search .opened + 1) (K q) (l .j) (w .7 .taken) (l .inv .0) (w .8 .ensures) (w .9 .taken) in
     rw (w .13, w .12, w .11) (sym e))
     (c .before .search-test .came)
 
@@ -190,20 +190,20 @@ find-spec =
     μ-search
     search-holds
     sub-k
-    mul-t16
-    element-copy-out-t19
-    mul-t20
-    element-copy-out-t23
+    mul-t15
+    element-copy-out-t18
+    mul-t19
+    element-copy-out-t22
     takes-requires
     add-opened
-    mul-last
-    element-copy-out-last
-    cast-last
+    mul-j
+    element-copy-out-j
+    cast-j
     loop-holds
     search-less
     search-again
     sub-j
-    is-live-requires
+    bears-requires
     loop-less
     loop-again
     search-less-2
