@@ -1,7 +1,8 @@
--- What is known where no row of a call applies.
+-- What is known where no row of a call applies, and of a write by its reply.
 -- Assumes nothing.
 use Prim.Native.Nat.{ℕ, _≤_, _<_}
-use mathlib.Core.Path.{_≡_, refl}
+use mathlib.Core.Path.{_≡_, refl, sym, ap, _∙_}
+use mathlib.Core.Logic.{_≢_}
 use mathlib.Core.Bool.{Bool, true, false, not, _||_}
 use mathlib.Core.List.{List, _∷_}
 use native.Mathlib.Omega.{arith}
@@ -13,10 +14,13 @@ use Rattle.medium.specs.Word.{contentRange}
 use Rattle.medium.specs.Entry.{serverAt, AllInside}
 use Rattle.table.specs.declared.Table.{Table}
 use Rattle.table.specs.Sound.{usedOf, sound}
+use Rattle.table.specs.Upkeep.{withEntry}
 use Rattle.table.proofs.Soundness.{sound-facts}
 use Rattle.archive.specs.Refusal.{Row, _when_, firstOf}
-use Rattle.archive.specs.Calls.{addServerRows, reweightRows, short, target, writeRows, lookupRows}
-use Rattle.archive.proofs.Refusals.{passed}
+use Rattle.archive.specs.declared.Reply.{Reply}
+use Rattle.archive.specs.Calls.{addServerRows, reweightRows, short, target, writeRows, writeReply, writeTable, lookupRows}
+use Rattle.archive.proofs.Refusals.{settle-yes, settle-no, passed}
+use Rattle.archive.proofs.Answers.{reply-done, reply-number}
 use Rattle.archive.proofs.Searches.{target-is}
 
 pub record ServerAccepted (t : Table) (weight : ℕ) : Type 0 where
@@ -110,3 +114,33 @@ write-accepted t m id value z =
 -- a delete or a lookup past its first two rows
 pub in-range : (unsound : Bool) (id : ℕ) (rows : List Row) → firstOf (1 when unsound ∷ 2 when leb contentRange id ∷ rows) ≡ 0 → id < contentRange
 in-range unsound id rows z = leb-false contentRange id (passed 1 (leb contentRange id) rows (passed 0 unsound _ z .1) .0)
+
+-- a write by its reply: one of refusal 0 is accepted and names the write server, whose used grows by one
+pub record Filed (t : Table) (m : List ℕ) (id value server : ℕ) : Type 0 where
+  pub isSound : sound t ≡ true
+  pub there : server < t .count
+  pub free : usedOf t server < t .capacity
+  pub table : withEntry t server ≡ writeTable t m id value
+
+module _ (t : Table) (m : List ℕ) (id value : ℕ) (r : Reply) (e : r ≡ writeReply t m id value) where
+  write-number : r .refusal ≡ firstOf (writeRows t m id value)
+  unfolding writeReply
+  write-number = ap (λ (r : Reply). r .refusal) e ∙ reply-number (writeRows t m id value) _ refl
+
+  pub filed : r .refusal ≡ 0 → Filed t m id value (r .server)
+  unfolding writeReply writeTable
+  filed z =
+      let y : firstOf (writeRows t m id value) ≡ 0 = sym write-number ∙ z in
+      let a = write-accepted t m id value y in
+      let k : r .server ≡ target t id = ap (λ (r : Reply). r .server) (e ∙ reply-done (writeRows t m id value) y _) in
+      record {
+        isSound = a .isSound;
+        there = omega (arith, a .there);
+        free = omega (arith, a .free, ap (usedOf t) k);
+        table = ap (withEntry t) k ∙ sym (settle-yes (writeRows t m id value) _ t y);
+      }
+
+  -- one of another number is refused
+  pub table-kept : r .refusal ≢ 0 → t ≡ writeTable t m id value
+  unfolding writeTable
+  table-kept f = sym (settle-no (writeRows t m id value) _ t (λ y. f (write-number ∙ y)))

@@ -4,6 +4,9 @@ use Prim.Native.Nat.{ℕ}
 use mathlib.Core.Path.{_≡_, sym, ap, _∙_}
 use mathlib.Core.List.{List}
 use native.Mathlib.Omega.{arith}
+use lib.Dec.{eqb}
+use borrow.Author.Tests.{eqb-true}
+use Rattle.placement.proofs.Tests.{byBool}
 use Rattle.archive.specs.declared.Refusal.{Refusal}
 use Rattle.archive.specs.declared.Refusal.the-variants.{UnsoundTable, OutOfRange, NoSuchServer, TooManyServers, ShortMedium, ServerFull, NotBlank, NotFound, ExceedsFree, Corrupt}
 use Rattle.archive.specs.Refusal.{Row, firstOf, settle}
@@ -61,3 +64,8 @@ pub check-reply : (rows : List Row) (a : Check) → checkNumber a ≡ firstOf ro
 unfolding checkNumber replyOfCheck
 check-reply rows check.Accepted e = sym (reply-done rows (sym e) accepted)
 check-reply rows (check.Refused r) e = reply-refused rows r e accepted
+
+-- the refusal number of a reply is that of its rows
+pub reply-number : (rows : List Row) (done : Reply) → done .refusal ≡ 0 → replyBy rows done .refusal ≡ firstOf rows
+unfolding replyBy settle
+reply-number rows done z = byBool (eqb (firstOf rows) 0) (λ e. rw e (z ∙ sym (eqb-true (firstOf rows) 0 e))) (λ e. rw e)

@@ -22,13 +22,15 @@ use Rattle.archive.specs.declared.Found.{Found}
 use Rattle.archive.specs.declared.Found.the-variants.{At, Nowhere}
 use Rattle.archive.specs.declared.Refusal.{Refusal}
 use Rattle.archive.specs.declared.Refusal.the-variants.{NotFound}
+use Rattle.archive.specs.declared.WriteAnswer.{WriteAnswer}
+use Rattle.archive.specs.declared.WriteAnswer.the-variants.{Written, Refused}
 use Rattle.archive.specs.Refusal.{firstOf}
-use Rattle.archive.specs.Reply.{refused, found, onServer, numberOf}
+use Rattle.archive.specs.Reply.{refused, found, onServer, numberOf, replyOfWrite}
 use Rattle.archive.specs.Search.{Place, Search, reads, searchFor, foundAt, foundBy}
-use Rattle.archive.specs.Calls.{short, target, writeRows, writeMarks, writeReply, writeMedium, isMet, deleteRows, deleteMarks, deleteReply, deleteMedium, lookupRows, metReply, lookupReply}
+use Rattle.archive.specs.Calls.{short, target, writeRows, writeMarks, writeReply, writeTable, writeMedium, isMet, deleteRows, deleteMarks, deleteReply, deleteMedium, lookupRows, metReply, lookupReply}
 use Rattle.archive.proofs.Refusals.{settle-yes}
 use Rattle.archive.proofs.Answers.{number-not-zero, kept, reply-refused, reply-done}
-use Rattle.archive.proofs.Accepted.{ready-tests, write-accepted}
+use Rattle.archive.proofs.Accepted.{ready-tests, write-accepted, Filed, filed, table-kept}
 use Rattle.archive.proofs.NewEntry.{entered, entered-burns, entered-marks}
 use Rattle.archive.proofs.Searches.{deleted-some}
 
@@ -105,7 +107,11 @@ module _ (t : Table) (m : List ℕ) (id : ℕ) (z : firstOf (lookupRows t m id) 
           words ∙ ap (λ (l : List ℕ). burnAll m (invalidations deleted l)) from-zero ∙ sym (settle-yes (deleteRows t m id) _ m q),
         )
 
--- a delete that the shared tests refuse
+-- a lookup and a delete that the tests they share refuse
+pub lookup-refused : (t : Table) (m : List ℕ) (id : ℕ) (r : Refusal) → numberOf r ≡ firstOf (lookupRows t m id) → refused (numberOf r) 0 ≡ lookupReply t m id
+unfolding lookupReply
+lookup-refused t m id r e = reply-refused (lookupRows t m id) r e _
+
 same-refusal : (t : Table) (m : List ℕ) (id : ℕ) → firstOf (lookupRows t m id) ≢ 0 → firstOf (deleteRows t m id) ≡ firstOf (lookupRows t m id)
 unfolding lookupRows deleteRows firstOf
 same-refusal t m id f =
@@ -119,6 +125,11 @@ unfolding deleteReply deleteMedium
 delete-refused t m id r e =
     let same : numberOf r ≡ firstOf (deleteRows t m id) = e ∙ sym (same-refusal t m id (λ z. number-not-zero r (e ∙ z))) in
     (reply-refused (deleteRows t m id) r same _, kept (deleteRows t m id) r same _ m)
+
+-- a write that its tests refuse
+pub write-refused : (t : Table) (m : List ℕ) (id value : ℕ) (r : Refusal) → numberOf r ≡ firstOf (writeRows t m id value) → (refused (numberOf r) 0 ≡ writeReply t m id value) × (m ≡ writeMedium t m id value)
+unfolding writeReply writeMedium
+write-refused t m id value r e = (reply-refused (writeRows t m id value) r e _, kept (writeRows t m id value) r e _ m)
 
 -- servers lie inside a medium by its length alone
 pub inside-set : (capacity count : ℕ) (used : ℕ → ℕ) (m : List ℕ) (a x b y : ℕ) → AllInside capacity count used m → AllInside capacity count used (set (set m a x) b y)
@@ -146,3 +157,13 @@ module _ (t : Table) (m : List ℕ) (id value : ℕ) (z : firstOf (writeRows t m
     ap₂ onServer there (count ∙ ap length marks-here) ∙ sym (reply-done (writeRows t m id value) z _),
     words ∙ ap₂ (λ (w l : List ℕ). burnAll w (invalidations replaced l)) entered-here marks-here ∙ sym (entered-burns t m id value) ∙ sym (settle-yes (writeRows t m id value) _ m z),
   )
+
+-- the table after a write, by its answer
+module _ (t : Table) (m : List ℕ) (id value : ℕ) {a : WriteAnswer} (e : replyOfWrite a ≡ writeReply t m id value) where
+  pub answered-written : {k n : ℕ} → a ≡ Written k n → Filed t m id value k
+  unfolding replyOfWrite
+  answered-written {k} {n} g = filed t m id value (onServer k n) (sym (ap replyOfWrite g) ∙ e) refl
+
+  pub answered-refused : {r : Refusal} → a ≡ Refused r → t ≡ writeTable t m id value
+  unfolding replyOfWrite
+  answered-refused {r} g = table-kept t m id value (refused (numberOf r) 0) (sym (ap replyOfWrite g) ∙ e) (number-not-zero r)

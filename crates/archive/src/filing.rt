@@ -1,16 +1,17 @@
 // The calls that burn words: write and delete.
 ghost use mathlib.Core.Path.{_≡_};
 ghost use mathlib.Core.Bool.{_&&_};
-ghost use Prim.Native.Nat.{_<_};
-ghost use lib.ListN.{length};
+ghost use Prim.Native.Nat.{_<_, _+_};
+ghost use lib.ListN.{length, set};
 ghost use lib.Dec.{leb};
 ghost use Rattle.placement.specs.Below.{nth};
 ghost use Rattle.placement.specs.Rule.{readable};
+ghost use Rattle.medium.specs.Word.{contentRange, idWord, valueWord};
 ghost use Rattle.medium.specs.Entry.{AllInside};
 ghost use Rattle.medium.specs.Burn.{burnAll, marksOver, invalidations};
-ghost use Rattle.archive.specs.Refusal.{firstOf};
+ghost use Rattle.table.specs.Sound.{tableOf};
 ghost use Rattle.archive.specs.Reply.{replyOfWrite, replyOfDelete};
-ghost use Rattle.archive.specs.Calls.{target, writeRows, writeReply, writeTable, writeMedium, deleteReply, deleteMedium};
+ghost use Rattle.archive.specs.Calls.{writeReply, writeTable, writeMedium, deleteReply, deleteMedium};
 use crate::Check;
 use crate::DeleteAnswer;
 use crate::Plan;
@@ -55,49 +56,75 @@ pub fn invalidate<'a>(
     n
 }
 
-// An accepted write: the value and the id go to the write server's next entry, then each earlier live entry of the id on
-// readable servers at or above it is invalidated.
-fn file(table: Table, medium: &mut [u32], server: usize, id: u32, value: u32) -> Written
-    requires { ⌜ firstOf (writeRows table (now medium) id value) ≡ 0 ⌝ }
-    requires { ⌜ server ≡ target table id ⌝ }
-    ensures reply { λ r. ⌜ replyOfWrite (r .answer) ≡ writeReply table (now (medium .entry)) id value ⌝ }
-    ensures table { λ r. ⌜ r .table ≡ writeTable table (now (medium .entry)) id value ⌝ }
-    ensures medium { λ _. ⌜ now (medium .exit) ≡ writeMedium table (now (medium .entry)) id value ⌝ }
+// Burns the value word and then the id word of the entry that begins at `at`.
+fn enter(medium: &mut [u32], at: usize, id: u32, value: u32)
+    requires { ⌜ at + 1 < length (now medium) ⌝ }
+    requires { ⌜ value < contentRange ⌝ }
+    ensures { λ _. ⌜ now (medium .exit) ≡ set (set (now (medium .entry)) (at + 1) (valueWord value)) at (idWord id) ⌝ }
 {
-    let capacity = table.capacity;
-    let entry = table.used[server] as usize;
-    let at = medium::entry_at(capacity as usize, server, entry);
     medium[at + 1] = 1073741824 + value;
     medium[at] = id;
-    let n = invalidate(
-        medium,
+}
+
+// Write on a table whose arrays are borrowed: the value and the id go to the write server's next entry, then each earlier
+// live entry of the id on readable servers at or above it is invalidated. The caller counts the entry as used on the server
+// that is answered.
+pub fn write_in<'a>(
+    capacity: u32,
+    count: usize,
+    weights: &'a [u32; 256],
+    used: &'a [u32; 256],
+    numerators: &'a [u32; 256],
+    denominators: &'a [u32; 256],
+    medium: &mut [u32],
+    id: u32,
+    value: u32,
+) -> WriteAnswer
+    ensures reply { λ r. ⌜ replyOfWrite r ≡ writeReply (tableOf capacity count (now (weights .entry)) (now (used .entry)) (now (numerators .entry)) (now (denominators .entry))) (now (medium .entry)) id value ⌝ }
+    ensures medium { λ _. ⌜ now (medium .exit) ≡ writeMedium (tableOf capacity count (now (weights .entry)) (now (used .entry)) (now (numerators .entry)) (now (denominators .entry))) (now (medium .entry)) id value ⌝ }
+{
+    let plan = checks::write(
         capacity,
-        table.count,
-        &table.used,
-        &table.numerators,
-        &table.denominators,
+        count,
+        weights,
+        used,
+        numerators,
+        denominators,
+        medium,
         id,
-        server,
-        medium::REPLACED,
+        value,
     );
-    let next = table::with_entry(table, server);
-    Written {
-        answer: WriteAnswer::Written(server, n),
-        table: next,
+    match plan {
+        Plan::Refused(refusal) => WriteAnswer::Refused(refusal),
+        Plan::To(server) => {
+            let entry = used[server] as usize;
+            let at = medium::entry_at(capacity as usize, server, entry);
+            enter(medium, at, id, value);
+            let n = invalidate(
+                medium,
+                capacity,
+                count,
+                used,
+                numerators,
+                denominators,
+                id,
+                server,
+                medium::REPLACED,
+            );
+            WriteAnswer::Written(server, n)
+        }
     }
 }
 
-// What the tests say, and the write where they accept it.
+// Write on a table by value.
 pub fn write(table: Table, medium: &mut [u32], id: u32, value: u32) -> Written
     ensures reply { λ r. ⌜ replyOfWrite (r .answer) ≡ writeReply table (now (medium .entry)) id value ⌝ }
     ensures table { λ r. ⌜ r .table ≡ writeTable table (now (medium .entry)) id value ⌝ }
     ensures medium { λ _. ⌜ now (medium .exit) ≡ writeMedium table (now (medium .entry)) id value ⌝ }
 {
-    let capacity = table.capacity;
-    let count = table.count;
-    let plan = checks::write(
-        capacity,
-        count,
+    let answer = write_in(
+        table.capacity,
+        table.count,
         &table.weights,
         &table.used,
         &table.numerators,
@@ -106,29 +133,39 @@ pub fn write(table: Table, medium: &mut [u32], id: u32, value: u32) -> Written
         id,
         value,
     );
-    match plan {
-        Plan::Refused(refusal) => Written {
-            answer: WriteAnswer::Refused(refusal),
-            table,
-        },
-        Plan::To(server) => file(table, medium, server, id, value),
+    match answer {
+        WriteAnswer::Refused(_) => Written { answer, table },
+        WriteAnswer::Written(server, _) => {
+            let next = table::with_entry(table, server);
+            Written {
+                answer,
+                table: next,
+            }
+        }
     }
 }
 
-// Every live entry of the id on every readable server is invalidated.
-pub fn delete(table: Table, medium: &mut [u32], id: u32) -> DeleteAnswer
-    ensures reply { λ r. ⌜ replyOfDelete r ≡ deleteReply table (now (medium .entry)) id ⌝ }
-    ensures medium { λ _. ⌜ now (medium .exit) ≡ deleteMedium table (now (medium .entry)) id ⌝ }
+// Delete on a table whose arrays are borrowed: every live entry of the id on every readable server is invalidated.
+pub fn delete_in<'a>(
+    capacity: u32,
+    count: usize,
+    weights: &'a [u32; 256],
+    used: &'a [u32; 256],
+    numerators: &'a [u32; 256],
+    denominators: &'a [u32; 256],
+    medium: &mut [u32],
+    id: u32,
+) -> DeleteAnswer
+    ensures reply { λ r. ⌜ replyOfDelete r ≡ deleteReply (tableOf capacity count (now (weights .entry)) (now (used .entry)) (now (numerators .entry)) (now (denominators .entry))) (now (medium .entry)) id ⌝ }
+    ensures medium { λ _. ⌜ now (medium .exit) ≡ deleteMedium (tableOf capacity count (now (weights .entry)) (now (used .entry)) (now (numerators .entry)) (now (denominators .entry))) (now (medium .entry)) id ⌝ }
 {
-    let capacity = table.capacity;
-    let count = table.count;
     let check = checks::ready(
         capacity,
         count,
-        &table.weights,
-        &table.used,
-        &table.numerators,
-        &table.denominators,
+        weights,
+        used,
+        numerators,
+        denominators,
         medium,
         id,
     );
@@ -139,9 +176,9 @@ pub fn delete(table: Table, medium: &mut [u32], id: u32) -> DeleteAnswer
         medium,
         capacity,
         count,
-        &table.used,
-        &table.numerators,
-        &table.denominators,
+        used,
+        numerators,
+        denominators,
         id,
         0,
         medium::DELETED,
@@ -150,4 +187,21 @@ pub fn delete(table: Table, medium: &mut [u32], id: u32) -> DeleteAnswer
         return DeleteAnswer::Refused(Refusal::NotFound);
     }
     DeleteAnswer::Deleted(n)
+}
+
+// Delete on a table by value.
+pub fn delete(table: Table, medium: &mut [u32], id: u32) -> DeleteAnswer
+    ensures reply { λ r. ⌜ replyOfDelete r ≡ deleteReply table (now (medium .entry)) id ⌝ }
+    ensures medium { λ _. ⌜ now (medium .exit) ≡ deleteMedium table (now (medium .entry)) id ⌝ }
+{
+    delete_in(
+        table.capacity,
+        table.count,
+        &table.weights,
+        &table.used,
+        &table.numerators,
+        &table.denominators,
+        medium,
+        id,
+    )
 }

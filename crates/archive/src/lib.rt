@@ -1,4 +1,5 @@
-// The archive's public calls on a table by value and a lent medium. None has a `requires`: a call refuses instead.
+// The archive's public calls on a table by value and a lent medium; write, delete and lookup also on borrowed arrays, as
+// `write_in`, `delete_in` and `lookup_in`. None has a `requires`: a call refuses instead.
 mod checks;
 mod filing;
 mod numbers;
@@ -6,13 +7,16 @@ mod search;
 mod upkeep;
 
 pub use filing::delete;
+pub use filing::delete_in;
 pub use filing::write;
+pub use filing::write_in;
 pub use numbers::delete_reply;
 pub use numbers::lookup_reply;
 pub use numbers::server_reply;
 pub use numbers::start_reply;
 pub use numbers::write_reply;
 pub use search::lookup;
+pub use search::lookup_in;
 use table::Table;
 pub use upkeep::add_server;
 pub use upkeep::reweight;

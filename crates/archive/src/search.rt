@@ -59,34 +59,33 @@ pub fn find<'a>(
     }
 }
 
-// The value of an id, or why there is none, and how many servers were opened.
-pub fn lookup(table: Table, medium: &[u32], id: u32) -> LookupAnswer
-    ensures { λ r. ⌜ replyOfLookup r ≡ lookupReply table (now (medium .entry)) id ⌝ }
+// Lookup on a table whose arrays are borrowed: the value of an id, or why there is none, and how many servers were opened.
+pub fn lookup_in<'a>(
+    capacity: u32,
+    count: usize,
+    weights: &'a [u32; 256],
+    used: &'a [u32; 256],
+    numerators: &'a [u32; 256],
+    denominators: &'a [u32; 256],
+    medium: &'a [u32],
+    id: u32,
+) -> LookupAnswer
+    ensures { λ r. ⌜ replyOfLookup r ≡ lookupReply (tableOf capacity count (now (weights .entry)) (now (used .entry)) (now (numerators .entry)) (now (denominators .entry))) (now (medium .entry)) id ⌝ }
 {
-    let capacity = table.capacity;
-    let count = table.count;
     let check = checks::ready(
         capacity,
         count,
-        &table.weights,
-        &table.used,
-        &table.numerators,
-        &table.denominators,
+        weights,
+        used,
+        numerators,
+        denominators,
         medium,
         id,
     );
     if let Check::Refused(refusal) = check {
         return LookupAnswer::Refused(refusal, 0);
     }
-    let found = find(
-        capacity,
-        count,
-        &table.used,
-        &table.numerators,
-        &table.denominators,
-        medium,
-        id,
-    );
+    let found = find(capacity, count, used, numerators, denominators, medium, id);
     match found {
         Found::Nowhere(opened) => LookupAnswer::Refused(Refusal::NotFound, opened),
         Found::At(server, entry, opened) => {
@@ -98,4 +97,20 @@ pub fn lookup(table: Table, medium: &[u32], id: u32) -> LookupAnswer
             }
         }
     }
+}
+
+// Lookup on a table by value.
+pub fn lookup(table: Table, medium: &[u32], id: u32) -> LookupAnswer
+    ensures { λ r. ⌜ replyOfLookup r ≡ lookupReply table (now (medium .entry)) id ⌝ }
+{
+    lookup_in(
+        table.capacity,
+        table.count,
+        &table.weights,
+        &table.used,
+        &table.numerators,
+        &table.denominators,
+        medium,
+        id,
+    )
 }

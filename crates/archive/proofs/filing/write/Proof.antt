@@ -1,79 +1,68 @@
--- `archive::write` meets its contract: what the tests say, and the write where they accept it.
-use Prim.Native.Nat.{ℕ}
-use mathlib.Core.Path.{_≡_, sym, ap, _∙_}
+-- `archive::write` meets its contract: what the write on borrowed arrays answers, and the table by that answer.
+use mathlib.Core.Path.{_∙_}
 use mathlib.Core.List.{List}
+use Prim.Native.Nat.{ℕ}
 use borrow.Author.Needs.{needs}
 use Rattle.table.specs.declared.Table.{Table}
-use Rattle.archive.specs.Refusal.{Row, firstOf}
-use Rattle.archive.specs.Reply.{numberOf, planNumber, planServer, replyOfWrite}
-use Rattle.archive.specs.Calls.{target, writeRows, writeReply, writeTable, writeMedium}
-use Rattle.archive.proofs.Refusals.{settle-yes}
-use Rattle.archive.proofs.Answers.{kept, reply-refused}
+use Rattle.archive.proofs.Accepted.{Filed}
+use Rattle.archive.proofs.Done.{answered-written, answered-refused}
 use Rattle.archive.proofs.filing.write.Statement.{statement}
 use Rattle.archive.proofs.filing.write.Tie as tie
 
-write-requires : tie.Need-write-requires
-write-requires c κs = search needs
+write-in-requires : tie.Need-write-in-requires
+write-in-requires c κs = search needs
 
-enum-known-plan : tie.Need-enum-known-plan
-enum-known-plan c = search needs
+enum-told : tie.Need-enum-told
+enum-told c = search needs
 
-enum-known-plan-2 : tie.Need-enum-known-plan-2
-enum-known-plan-2 c = search needs
+enum-known-answer : tie.Need-enum-known-answer
+enum-known-answer c = search needs
 
--- the call's arguments, and its rows
-abbrev S : tie.After-write → tie.Start
+-- where the write is answered, and the call's arguments
+abbrev W : tie.After-slice-known2 → tie.After-write-in
+W c = c .before .before
+
+abbrev S : tie.After-write-in → tie.Start
 S c = c .before .before .before .before .before .before .before .before
 
-abbrev T : tie.After-write → Table
+abbrev T : tie.After-write-in → Table
 T c = S c .args .t1
 
-abbrev M : tie.After-write → List ℕ
+abbrev M : tie.After-write-in → List ℕ
 M c = S c .args .medium .now
 
-abbrev rows : tie.After-write → List Row
-rows c = writeRows (T c) (M c) (S c .args .id) (S c .args .value)
+-- the write as it was answered
+filed-here : (c : tie.After-answer) → let w = W (c .before .before) in Filed (T w) (M w) (S w .args .id) (S w .args .value) (c .answer .given .0 .0)
+filed-here c = let w = W (c .before .before) in answered-written (T w) (M w) (S w .args .id) (S w .args .value) (w .write-in .ensures .0) (c .answer .given .1)
 
-refused-here : (c : tie.After-plan) → numberOf (c .plan .given .0 .0) ≡ firstOf (rows (c .before .before))
-unfolding planNumber
-refused-here c = sym (ap planNumber (c .plan .given .1)) ∙ c .before .before .write .ensures .0
-
-accepted-here : (c : tie.After-plan2) → firstOf (rows (c .before .before)) ≡ 0
-unfolding planNumber
-accepted-here c = sym (c .before .before .write .ensures .0) ∙ ap planNumber (c .plan2 .given .1)
-
--- the server planned is the write server
-there-here : (c : tie.After-plan2) → c .plan2 .given .0 .0 ≡ target (T (c .before .before)) (S (c .before .before) .args .id)
-unfolding planServer
-there-here c = sym (ap planServer (c .plan2 .given .1)) ∙ c .before .before .write .ensures .1 ∙ settle-yes (rows (c .before .before)) _ 0 (accepted-here c)
-
-file-requires : tie.Need-file-requires
-file-requires c κs = let p = c .before .before in (accepted-here p, there-here p)
+with-entry-requires : tie.Need-with-entry-requires
+with-entry-requires c κs = let f = filed-here (c .before) in (f .isSound, f .there)
 
 same-length : tie.Need-same-length
 same-length c = search needs
 
 returns : tie.Need-returns
-unfolding replyOfWrite writeReply writeTable writeMedium
 returns c =
-    let e = refused-here (c .before) in
-    let w = c .before .before .before in
-    (reply-refused (rows w) _ e _, (kept (rows w) _ e _ (T w), kept (rows w) _ e _ (M w)))
+    let w = W (c .before .before) in
+    (w .write-in .ensures .0, (answered-refused (T w) (M w) (S w .args .id) (S w .args .value) (w .write-in .ensures .0) (c .enum-told .given .1), w .write-in .ensures .1))
 
 same-length-2 : tie.Need-same-length-2
 same-length-2 c = search needs
 
 returns-2 : tie.Need-returns-2
-returns-2 c = c .before .before .file .ensures
+returns-2 c =
+    let a = c .before .before in
+    let w = W (a .before .before) in
+    (rw (← a .answer .given .1) (w .write-in .ensures .0), (c .with-entry .ensures ∙ filed-here a .table, w .write-in .ensures .1))
 
 pub write-spec : {M : Type 1} → statement M
 write-spec =
     tie.close
     (tie.spec
-    write-requires
-    enum-known-plan
-    enum-known-plan-2
-    file-requires
+    write-in-requires
+    enum-told
+    enum-known-answer
+    with-entry-requires
     same-length
     returns
     same-length-2

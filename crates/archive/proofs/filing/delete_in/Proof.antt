@@ -1,17 +1,18 @@
--- `archive::delete` meets its contract: what the tests say, and the marks of every live entry on every readable server.
+-- `archive::delete_in` meets its contract: what the tests say, and the marks of every live entry on every readable server.
 use mathlib.Core.Path.{_≡_}
 use mathlib.Core.List.{List}
 use Prim.Native.Nat.{ℕ}
 use borrow.Author.Needs.{needs}
 use Rattle.table.specs.declared.Table.{Table}
+use Rattle.table.specs.Sound.{tableOf}
 use Rattle.archive.specs.Refusal.{firstOf}
 use Rattle.archive.specs.Reply.{numberOf, replyOfDelete}
 use Rattle.archive.specs.Calls.{lookupRows}
 use Rattle.archive.proofs.Answers.{check-refused, check-accepted}
 use Rattle.archive.proofs.Accepted.{lookup-accepted}
 use Rattle.archive.proofs.Done.{delete-refused, deleted-none, deleted-done}
-use Rattle.archive.proofs.filing.delete.Statement.{statement}
-use Rattle.archive.proofs.filing.delete.Tie as tie
+use Rattle.archive.proofs.filing.delete_in.Statement.{statement}
+use Rattle.archive.proofs.filing.delete_in.Tie as tie
 
 ready-requires : tie.Need-ready-requires
 ready-requires c κs = search needs
@@ -21,10 +22,10 @@ enum-known-check c = search needs
 
 -- the call's arguments
 abbrev S : tie.After-ready → tie.Start
-S c = c .before .before .before .before .before .before .before .before
+S c = c .before .before .before
 
 abbrev T : tie.After-ready → Table
-T c = S c .args .t1
+T c = let a = S c .args in tableOf (a .capacity) (a .count) (a .weights .now) (a .used .now) (a .numerators .now) (a .denominators .now)
 
 abbrev M : tie.After-ready → List ℕ
 M c = S c .args .medium .now
@@ -46,11 +47,11 @@ enum-told : tie.Need-enum-told
 enum-told c = search needs
 
 invalidate-requires : tie.Need-invalidate-requires
-invalidate-requires c κs = (lookup-accepted _ _ _ (accepted-here (c .before .before .before .before .before)) .inside, search needs)
+invalidate-requires c κs = (lookup-accepted _ _ _ (accepted-here (c .before)) .inside, search needs)
 
 -- where the tests were accepted
 abbrev E : tie.After-invalidate → tie.After-enum-told
-E c = c .before .before .before .before .before .before
+E c = c .before .before
 
 same-length-2 : tie.Need-same-length-2
 same-length-2 c = search needs
@@ -74,8 +75,8 @@ returns-3 c =
     let r = e .before .before in
     deleted-done (T r) (M r) (S r .args .id) (accepted-here e) _ _ (i .invalidate .ensures .0) (i .invalidate .ensures .1) (c .if1 .left)
 
-pub delete-spec : {M : Type 1} → statement M
-delete-spec =
+pub delete-in-spec : {M : Type 1} → statement M
+delete-in-spec =
     tie.close
     (tie.spec
     ready-requires

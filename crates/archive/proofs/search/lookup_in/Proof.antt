@@ -1,4 +1,4 @@
--- `archive::lookup` meets its contract: what the tests say, and what the search met.
+-- `archive::lookup_in` meets its contract: what the tests say, and what the search met.
 use Prim.Native.Nat.{ℕ, _+_, _<_}
 use mathlib.Core.Path.{_≡_, sym, ap, _∙_}
 use mathlib.Core.Bool.{Bool, true, false, cond}
@@ -14,18 +14,18 @@ use Rattle.medium.specs.Entry.{entryAt, valueAt}
 use Rattle.medium.proofs.Places.{entry-in}
 use Rattle.medium.proofs.Entries.{live-used}
 use Rattle.table.specs.declared.Table.{Table}
-use Rattle.table.specs.Sound.{usedOf}
+use Rattle.table.specs.Sound.{tableOf, usedOf}
 use Rattle.archive.specs.Refusal.{firstOf}
 use Rattle.archive.specs.Reply.{refused, found, numberOf, replyOfLookup}
 use Rattle.archive.specs.Search.{searchFor}
 use Rattle.archive.specs.Calls.{lookupRows, lookupReply}
 use Rattle.archive.specs.Opened.{Met}
-use Rattle.archive.proofs.Answers.{check-refused, check-accepted, reply-refused}
+use Rattle.archive.proofs.Answers.{check-refused, check-accepted}
 use Rattle.archive.proofs.Accepted.{Ready, lookup-accepted}
 use Rattle.archive.proofs.Searches.{met-some}
-use Rattle.archive.proofs.Done.{found-some, looked-none, looked-some}
-use Rattle.archive.proofs.search.lookup.Statement.{statement}
-use Rattle.archive.proofs.search.lookup.Tie as tie
+use Rattle.archive.proofs.Done.{found-some, looked-none, looked-some, lookup-refused}
+use Rattle.archive.proofs.search.lookup_in.Statement.{statement}
+use Rattle.archive.proofs.search.lookup_in.Tie as tie
 
 ready-requires : tie.Need-ready-requires
 ready-requires c κs = search needs
@@ -35,10 +35,10 @@ enum-known-check c = search needs
 
 -- the call's arguments
 abbrev S : tie.After-ready → tie.Start
-S c = c .before .before .before .before .before .before .before
+S c = c .before .before
 
 abbrev T : tie.After-ready → Table
-T c = S c .args .t1
+T c = let a = S c .args in tableOf (a .capacity) (a .count) (a .weights .now) (a .used .now) (a .numerators .now) (a .denominators .now)
 
 abbrev M : tie.After-ready → List ℕ
 M c = S c .args .medium .now
@@ -50,8 +50,8 @@ accepted-here : (c : tie.After-enum-told) → firstOf (lookupRows (T (c .before 
 accepted-here c = check-accepted (lookupRows (T (c .before .before)) (M (c .before .before)) (S (c .before .before) .args .id)) (c .before .before .ready .ensures) (c .enum-told .given .1)
 
 returns : tie.Need-returns
-unfolding replyOfLookup lookupReply
-returns c = let r = c .before .before .before in reply-refused (lookupRows (T r) (M r) (S r .args .id)) _ (refused-here (c .before)) _
+unfolding replyOfLookup
+returns c = let r = c .before .before .before in lookup-refused (T r) (M r) (S r .args .id) _ (refused-here (c .before))
 
 enum-told : tie.Need-enum-told
 enum-told c = search needs
@@ -60,11 +60,11 @@ ready-here : (c : tie.After-enum-told) → Ready (T (c .before .before)) (M (c .
 ready-here c = lookup-accepted _ _ _ (accepted-here c)
 
 find-requires : tie.Need-find-requires
-find-requires c κs = ready-here (c .before .before .before .before) .inside
+find-requires c κs = ready-here c .inside
 
 -- where the search's answer is known
 abbrev E : tie.After-find → tie.After-enum-told
-E c = c .before .before .before .before .before
+E c = c .before
 
 abbrev R : tie.After-find → tie.After-ready
 R c = E c .before .before
@@ -99,9 +99,6 @@ room c =
     let j = c .found2 .given .0 .1 .0 in
     let u = live-used (t .capacity) (usedOf t k) (M (R f)) (S (R f) .args .id) k j (g .isLive) in
     omega (arith, i .long, entry-in (t .capacity) (t .count) k j 1 (g .below) (omega (arith, i .fits k (g .below))) (omega arith))
-
-cast-entry-at : tie.Need-cast-entry-at
-cast-entry-at c = search needs
 
 entry-at-requires : tie.Need-entry-at-requires
 entry-at-requires c κs =
@@ -147,8 +144,8 @@ returns-4 : tie.Need-returns-4
 unfolding replyOfLookup numberOf
 returns-4 c = told (c .before) false (ne-eqb _ _ (c .if1 .left))
 
-pub lookup-spec : {M : Type 1} → statement M
-lookup-spec =
+pub lookup-in-spec : {M : Type 1} → statement M
+lookup-in-spec =
     tie.close
     (tie.spec
     ready-requires
@@ -158,7 +155,6 @@ lookup-spec =
     find-requires
     enum-known-found
     enum-known-found-2
-    cast-entry-at
     entry-at-requires
     add-word
     mul-word
