@@ -15,20 +15,24 @@ use Rattle.placement.specs.Below.{nth}
 use Rattle.placement.proofs.Tests.{byBool}
 use Rattle.medium.specs.Word.{blank}
 use Rattle.table.specs.declared.Table.{Table}
-use Rattle.archive.specs.Refusal.{firstOf, settle}
+use Rattle.table.specs.Sound.{tableOf, usedOf}
+use Rattle.table.specs.Upkeep.{withEntry}
+use Rattle.table.proofs.Soundness.{sound-facts}
+use Rattle.archive.specs.Refusal.{firstOf}
 use Rattle.archive.specs.declared.Refusal.{Refusal}
 use Rattle.archive.specs.declared.Check.{Check}
 use Rattle.archive.specs.declared.Check.the-variants.{Accepted, Refused}
 use Rattle.archive.specs.declared.Reply.{Reply}
-use Rattle.archive.specs.Reply.{replyBy, replyOfCheck}
-use Rattle.archive.specs.Calls.{startRows, startReply, startTable}
+use Rattle.archive.specs.Reply.{replyOfCheck}
+use Rattle.archive.specs.Calls.{startRows, startReply, startTable, writeReply, writeTable}
 use Rattle.archive.proofs.Refusals.{settle-yes, settle-no}
-use Rattle.archive.proofs.Answers.{number-not-zero}
+use Rattle.archive.proofs.Answers.{number-not-zero, reply-number}
+use Rattle.archive.proofs.Accepted.{Filed, filed, table-kept}
 use Rattle.archive.proofs.Small.{Small, addServer-small, reweight-small, write-small, delete-small, lookup-small}
 use Rattle.history.specs.Call.{Call, addServer, reweight, write, delete, lookup, compared}
 use Rattle.history.specs.Machine.{State, reply, next, after, begin}
 use Rattle.history.specs.Ledger.{opening, ledgerAfter}
-use Rattle.history.specs.Replay.{callOf, callAt, appended, callsBelow, replyTo, nextBy, ledgerReplyTo, withReply, withReplies, roomFor, runs, started, replyAt, ledgerReplyAt, LedgerWords}
+use Rattle.history.specs.Replay.{callOf, callAt, appended, callsBelow, replyTo, nextBy, ledgerReplyTo, usedAfter, withReply, withReplies, roomFor, runs, started, replyAt, ledgerReplyAt, LedgerWords}
 use Rattle.history.proofs.Unaltered.{after-append}
 use Rattle.history.proofs.Run.{begin-agrees, step, run}
 
@@ -36,15 +40,60 @@ use Rattle.history.proofs.Run.{begin-agrees, step, run}
 abbrev pub Called : State → Option Call → Reply → Table → List ℕ → Type 0
 Called S o r table medium = (r ≡ replyTo S o) × ((table ≡ nextBy S o .table) × (medium ≡ nextBy S o .medium))
 
--- a number that is a call, and one that is none
-pub called : (S : State) (o : Option Call) (c : Call) (r : Reply) (table : Table) (medium : List ℕ) → o ≡ some c
-    → r ≡ reply S c → table ≡ next S c .table → medium ≡ next S c .medium → Called S o r table medium
-unfolding replyTo nextBy
-called S o c r table medium e x y w = rw e (x, (y, w))
+-- the same of variables that are set to these
+pub called-as : (S : State) (o : Option Call) {r r′ : Reply} {table table′ : Table} {medium medium′ : List ℕ} → r′ ≡ r → table′ ≡ table → medium′ ≡ medium
+    → Called S o r table medium → Called S o r′ table′ medium′
+called-as S o x y z c = (x ∙ c .0, (y ∙ c .1 .0, z ∙ c .1 .1))
 
+-- a number that is no call
 pub no-call : (number first second : ℕ) → number ≢ 1 → number ≢ 2 → number ≢ 3 → number ≢ 4 → number ≢ 5 → callOf number first second ≡ none
 unfolding callOf
 no-call number first second a b c d e = rw (ne-eqb number 1 a, ne-eqb number 2 b, ne-eqb number 3 c, ne-eqb number 4 d, ne-eqb number 5 e)
+
+-- a table with other used entries
+abbrev pub withUsed : Table → List ℕ → Table
+withUsed t used = tableOf (t .capacity) (t .count) (t .weights) used (t .numerators) (t .denominators)
+
+module _ (S : State) (number first second : ℕ) where
+  -- the table after call 3, and after one from 4 on or none
+  written-table : number ≡ 3 → writeTable (S .table) (S .medium) first second ≡ nextBy S (callOf number first second) .table
+  unfolding callOf nextBy next
+  written-table d = rw d
+
+  same-table : number ≢ 1 → number ≢ 2 → number ≢ 3 → nextBy S (callOf number first second) .table ≡ S .table
+  unfolding callOf nextBy next
+  same-table a b c = rw (ne-eqb number 1 a, ne-eqb number 2 b, ne-eqb number 3 c)
+      (byBool (eqb number 4) (λ d. rw d) (λ d. rw d (byBool (eqb number 5) (λ d. rw d) (λ d. rw d))))
+
+  -- by its reply: whether and where an entry is counted, and the table with it
+  module _ (r : Reply) (e : r ≡ replyTo S (callOf number first second)) where
+    written-here : number ≡ 3 → r ≡ writeReply (S .table) (S .medium) first second
+    unfolding callOf replyTo reply
+    written-here d = e ∙ rw d
+
+    filed-here : number ≡ 3 → r .refusal ≡ 0 → Filed (S .table) (S .medium) first second (r .server)
+    filed-here d z = filed (S .table) (S .medium) first second r (written-here d) z
+
+    pub counts : number ≡ 3 → r .refusal ≡ 0 → (r .server < 256) × (usedOf (S .table) (r .server) < 65536)
+    counts d z =
+        let f = filed-here d z in
+        let s = sound-facts (S .table) (f .isSound) in
+        (omega arith, omega arith)
+
+    counted : (used : List ℕ) → number ≢ 1 → number ≢ 2 → used ≡ usedAfter (S .table .used) number r
+        → withUsed (S .table) used ≡ nextBy S (callOf number first second) .table
+    unfolding usedAfter withEntry
+    counted used a b u = ap (withUsed (S .table)) u ∙ byBool (eqb number 3)
+        (λ d.
+        let is = eqb-true number 3 d in
+        rw d (byBool (eqb (r .refusal) 0)
+        (λ z. rw z (filed-here is (eqb-true (r .refusal) 0 z) .table ∙ written-table is))
+        (λ z. rw z (table-kept (S .table) (S .medium) first second r (written-here is) (eqb-false (r .refusal) 0 z) ∙ written-table is))))
+        (λ d. rw d (sym (same-table a b (eqb-false number 3 d))))
+
+    pub called-in : (used medium : List ℕ) → number ≢ 1 → number ≢ 2 → used ≡ usedAfter (S .table .used) number r
+        → medium ≡ nextBy S (callOf number first second) .medium → Called S (callOf number first second) r (withUsed (S .table) used) medium
+    called-in used medium a b u d = (e, (counted used a b u, d))
 
 -- what the code stores of its reply as a cast fits a word
 replyTo-small : (S : State) (o : Option Call) → Small (replyTo S o)
@@ -175,8 +224,8 @@ ledger-words capacity z m calls words n fits = record {
 
 -- whether start accepted, by its answer
 pub start-number : (capacity : ℕ) → startReply capacity .refusal ≡ firstOf (startRows capacity)
-unfolding startReply replyBy settle
-start-number capacity = byBool (eqb (firstOf (startRows capacity)) 0) (λ e. rw e (sym (eqb-true (firstOf (startRows capacity)) 0 e))) (λ e. rw e)
+unfolding startReply
+start-number capacity = reply-number (startRows capacity) _ refl
 
 pub start-accepted : (capacity : ℕ) (c : Check) → c ≡ Accepted → replyOfCheck c ≡ startReply capacity → firstOf (startRows capacity) ≡ 0
 unfolding replyOfCheck

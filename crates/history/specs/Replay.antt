@@ -54,6 +54,10 @@ unfoldable pub ledgerReplyTo : Ledger → Option Call → Compared
 ledgerReplyTo L none = told noCall 0 0 0
 ledgerReplyTo L (some c) = enter L c .reply
 
+-- the used entries after a call by its number and reply: a write that is accepted has one more on its server
+unfoldable pub usedAfter : List ℕ → ℕ → Reply → List ℕ
+usedAfter used number r = cond (eqb number 3) (cond (eqb (r .refusal) 0) (set used (r .server) (suc (nth used (r .server)))) used) used
+
 -- the five words of reply i
 unfoldable pub withReply : List ℕ → ℕ → Reply → List ℕ
 withReply words i r =

@@ -1,21 +1,20 @@
 // Lists of calls against the plain ledger: an encoded list is run on a started table, and on blank words its replies are the
 // ledger's. It can be run on a table lent as words too.
 ghost use mathlib.Core.Path.{_≡_};
+ghost use mathlib.Core.Logic.{_≢_};
 ghost use Prim.Native.Nat.{_<_, _≤_, _+_, _*_, _/_, min};
 ghost use lib.ListN.{length};
 ghost use lib.Seq.{paste};
-ghost use Rattle.archive.specs.Reply.{replyOfServer, replyOfWrite};
+ghost use Rattle.placement.specs.Below.{nth};
+ghost use Rattle.table.specs.Sound.{tableOf};
+ghost use Rattle.archive.specs.Reply.{refused, replyOfServer};
 ghost use Rattle.history.specs.Machine.{after};
-ghost use Rattle.history.specs.Replay.{callOf, callsBelow, replyTo, nextBy, withReply, withReplies, runs, started, replyAt, LedgerWords};
+ghost use Rattle.history.specs.Replay.{callOf, callsBelow, noCall, replyTo, nextBy, withReply, withReplies, usedAfter, runs, started, replyAt, LedgerWords};
 ghost use Rattle.history.specs.Lent.{tableLength, tableFrom, withTable, lent, resumes};
 use archive::Check;
 use archive::Placed;
 use archive::Reply;
-use archive::Written;
 use table::Table;
-
-// What is no call gets a refusal number that no call gives.
-const NO_CALL: u32 = 4294967295;
 
 // A reply, and the table after the call.
 pub struct Ran {
@@ -35,15 +34,99 @@ fn from_placed(placed: Placed) -> Ran
     }
 }
 
-fn from_written(written: Written) -> Ran
-    ensures reply { λ r. ⌜ r .reply ≡ replyOfWrite (written .answer) ⌝ }
-    ensures table { λ r. ⌜ r .table ≡ written .table ⌝ }
+// What is no call gets a refusal number that no call gives.
+fn no_call() -> Reply
+    ensures { λ r. ⌜ r ≡ refused noCall 0 ⌝ }
 {
-    let answer = written.answer;
-    let table = written.table;
-    Ran {
-        reply: archive::write_reply(answer),
-        table,
+    Reply {
+        refusal: 4294967295,
+        server: 0,
+        value: 0,
+        opened: 0,
+        invalidated: 0,
+    }
+}
+
+// Runs an encoded call but 1 and 2 on a table whose arrays are borrowed. `count_entry` then makes the table after it.
+fn run_in<'a>(
+    capacity: u32,
+    count: usize,
+    weights: &'a [u32; 256],
+    used: &'a [u32; 256],
+    numerators: &'a [u32; 256],
+    denominators: &'a [u32; 256],
+    medium: &mut [u32],
+    number: u32,
+    first: u32,
+    second: u32,
+) -> Reply
+    requires { ⌜ (number ≢ 1) × (number ≢ 2) ⌝ }
+    ensures reply { λ r. ⌜ r ≡ replyTo (record { table = tableOf capacity count (now (weights .entry)) (now (used .entry)) (now (numerators .entry)) (now (denominators .entry)); medium = now (medium .entry) }) (callOf number first second) ⌝ }
+    ensures medium { λ _. ⌜ now (medium .exit) ≡ nextBy (record { table = tableOf capacity count (now (weights .entry)) (now (used .entry)) (now (numerators .entry)) (now (denominators .entry)); medium = now (medium .entry) }) (callOf number first second) .medium ⌝ }
+{
+    match number {
+        3 => archive::write_reply(archive::write_in(
+            capacity,
+            count,
+            weights,
+            used,
+            numerators,
+            denominators,
+            medium,
+            first,
+            second,
+        )),
+        4 => archive::delete_reply(archive::delete_in(
+            capacity,
+            count,
+            weights,
+            used,
+            numerators,
+            denominators,
+            medium,
+            first,
+        )),
+        5 => archive::lookup_reply(archive::lookup_in(
+            capacity,
+            count,
+            weights,
+            used,
+            numerators,
+            denominators,
+            medium,
+            first,
+        )),
+        _ => no_call(),
+    }
+}
+
+// Counts the entry of an accepted write as used on its server; no other call but 1 and 2 changes the table.
+fn count_entry(used: &mut [u32; 256], number: u32, reply: Reply)
+    requires { ⌜ (number ≡ 3 → reply .refusal ≡ 0 → (reply .server < 256) × (nth (now used) (reply .server) < 65536)) ⌝ }
+    ensures { λ _. ⌜ now (used .exit) ≡ usedAfter (now (used .entry)) number reply ⌝ }
+{
+    if number == 3 {
+        if reply.refusal == 0 {
+            let server = reply.server;
+            used[server] += 1;
+        }
+    }
+}
+
+// Runs call 1 or 2, which take the table by value; 0 is no call.
+fn run_change(table: Table, medium: &mut [u32], number: u32, first: u32, second: u32) -> Ran
+    requires { ⌜ number < 3 ⌝ }
+    ensures reply { λ r. ⌜ r .reply ≡ replyTo (record { table = table; medium = now (medium .entry) }) (callOf number first second) ⌝ }
+    ensures table { λ r. ⌜ r .table ≡ nextBy (record { table = table; medium = now (medium .entry) }) (callOf number first second) .table ⌝ }
+    ensures medium { λ _. ⌜ now (medium .exit) ≡ nextBy (record { table = table; medium = now (medium .entry) }) (callOf number first second) .medium ⌝ }
+{
+    match number {
+        1 => from_placed(archive::add_server(table, medium, first)),
+        2 => from_placed(archive::reweight(table, first as usize, second)),
+        _ => Ran {
+            reply: no_call(),
+            table,
+        },
     }
 }
 
@@ -53,31 +136,24 @@ pub fn run_call(table: Table, medium: &mut [u32], number: u32, first: u32, secon
     ensures table { λ r. ⌜ r .table ≡ nextBy (record { table = table; medium = now (medium .entry) }) (callOf number first second) .table ⌝ }
     ensures medium { λ _. ⌜ now (medium .exit) ≡ nextBy (record { table = table; medium = now (medium .entry) }) (callOf number first second) .medium ⌝ }
 {
-    if number == 1 {
-        return from_placed(archive::add_server(table, medium, first));
+    if number < 3 {
+        return run_change(table, medium, number, first, second);
     }
-    if number == 2 {
-        return from_placed(archive::reweight(table, first as usize, second));
-    }
-    if number == 3 {
-        return from_written(archive::write(table, medium, first, second));
-    }
-    if number == 4 {
-        let reply = archive::delete_reply(archive::delete(table, medium, first));
-        return Ran { reply, table };
-    }
-    if number == 5 {
-        let reply = archive::lookup_reply(archive::lookup(table, medium, first));
-        return Ran { reply, table };
-    }
-    let reply = Reply {
-        refusal: NO_CALL,
-        server: 0,
-        value: 0,
-        opened: 0,
-        invalidated: 0,
-    };
-    Ran { reply, table }
+    let mut next = table;
+    let reply = run_in(
+        next.capacity,
+        next.count,
+        &next.weights,
+        &next.used,
+        &next.numerators,
+        &next.denominators,
+        medium,
+        number,
+        first,
+        second,
+    );
+    count_entry(&mut next.used, number, reply);
+    Ran { reply, table: next }
 }
 
 // Stores the five words of a reply.
@@ -101,7 +177,7 @@ fn room(calls: usize, replies: usize) -> usize
     placement::lesser(calls / 3, replies / 5)
 }
 
-// Runs the first `n` encoded calls on a table.
+// Runs the first `n` encoded calls on a table, which stays in one place: only a number below 3 takes it by value.
 fn run_calls(
     table: Table,
     calls: &[u32],
@@ -117,9 +193,30 @@ fn run_calls(
     let mut i: usize = 0;
     while i < n {
         let at = 3 * i;
-        let ran = run_call(next, medium, calls[at], calls[at + 1], calls[at + 2]);
-        store(replies, i, ran.reply);
-        next = ran.table;
+        let number = calls[at];
+        let first = calls[at + 1];
+        let second = calls[at + 2];
+        let reply = if number < 3 {
+            let ran = run_change(next, medium, number, first, second);
+            next = ran.table;
+            ran.reply
+        } else {
+            let lent = run_in(
+                next.capacity,
+                next.count,
+                &next.weights,
+                &next.used,
+                &next.numerators,
+                &next.denominators,
+                medium,
+                number,
+                first,
+                second,
+            );
+            count_entry(&mut next.used, number, lent);
+            lent
+        };
+        store(replies, i, reply);
         i += 1;
     }
     next
