@@ -15,6 +15,7 @@ use crate::Ran;
 use crate::print;
 use crate::read;
 
+// Makes every word blank.
 fn blank_all(words: &mut [u32])
     ensures { λ _. ⌜ now (words .exit) ≡ replicate (length (now (words .entry))) blank ⌝ }
 {
@@ -107,6 +108,7 @@ fn line_by(letter: u8, first: u32, second: u32) -> Line
     }
 }
 
+// Whether a line of this letter has a second number: G and W do.
 fn has_two(letter: u8) -> bool
     ensures { λ r. ⌜ r ≡ hasTwo letter ⌝ }
 {
@@ -116,6 +118,7 @@ fn has_two(letter: u8) -> bool
     }
 }
 
+// Runs what a line asks for.
 fn run_read(in_use: InUse, medium: &mut [u32], line: Line, out: &mut [u8], at: usize) -> Ran
     requires { ⌜ at + 35 ≤ length (now out) ⌝ }
     ensures next { λ r. ⌜ r .next ≡ at + length (lineRun (sheetOf in_use (now (medium .entry))) line .bytes) ⌝ }
