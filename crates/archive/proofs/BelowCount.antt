@@ -3,7 +3,7 @@
 -- Assumes nothing.
 use Prim.Native.Nat.{ℕ, suc, _+_, _-_, _*_, _≤_, _<_}
 use mathlib.Core.Path.{_≡_, refl, sym, ap, ap₂, _∙_, subst}
-use mathlib.Core.Bool.{Bool, false, not, _&&_, _||_}
+use mathlib.Core.Bool.{Bool, true, false, not, _&&_}
 use mathlib.Core.List.{List, _∷_}
 use native.Mathlib.Omega.{arith}
 use lib.ListN.{length}
@@ -13,7 +13,7 @@ use Rattle.placement.specs.Draw.{modulus, drawOf}
 use Rattle.placement.specs.Rule.{pick, writeServer}
 use Rattle.placement.proofs.Tests.{byBool, true-not-false}
 use Rattle.placement.proofs.Rules.{pick-cong}
-use Rattle.medium.specs.Word.{contentRange, idWord, valueWord, replaced, deleted}
+use Rattle.medium.specs.Word.{idWord, valueWord, replaced, deleted}
 use Rattle.medium.specs.Entry.{serverAt, entryAt, blankRun}
 use Rattle.medium.specs.Burn.{burnAll, marksOver, invalidations}
 use Rattle.medium.proofs.Marks.{marksOver-cong}
@@ -28,6 +28,7 @@ use Rattle.archive.specs.Reply.{onServer}
 use Rattle.archive.specs.Search.{reads}
 use Rattle.archive.specs.Calls.{addServerRows, addServerReply, addServerTable, reweightRows, reweightReply, reweightTable, short, target, writeRows, writeMarks, writeBurns, writeReply, writeTable, writeMedium, deleteRows, deleteMarks, deleteReply, deleteMedium, lookupRows, lookupReply}
 use Rattle.archive.proofs.Refusals.{passed, first-same, settle-both, reply-same}
+use Rattle.archive.proofs.Accepted.{addServer-accepted, reweight-accepted, write-accepted}
 use Rattle.archive.proofs.Searches.{reads-same, target-is, deleted-some}
 use Rattle.archive.proofs.OpenedByValues.{opened-by-values}
 
@@ -37,37 +38,11 @@ pub record Alike (t u : Table) : Type 0 where
   pub one : Arrays t
   pub other : Arrays u
 
--- what an accepted call says of the count
-module _ (t : Table) where
-  few : not (sound t) ≡ false → t .count ≤ 256
-  few e = sound-facts t (not-false _ e) .few
+some-server : (t : Table) → eqb (t .count) 0 ≡ false → 0 < t .count
+some-server t e = omega (arith, eqb-false (t .count) 0 e)
 
-  some-server : eqb (t .count) 0 ≡ false → 0 < t .count
-  some-server e = omega (arith, eqb-false (t .count) 0 e)
-
-  addServer-few : (m : List ℕ) (weight : ℕ) → firstOf (addServerRows t m weight) ≡ 0 → t .count < 256
-  unfolding addServerRows
-  addServer-few m weight z =
-      let a = passed 0 (not (sound t)) _ z in
-      let b = passed 1 (ltb (t .capacity) weight) _ (a .1) in
-      let c = passed 3 (eqb (t .count) 256) _ (b .1) in
-      omega (arith, few (a .0), eqb-false (t .count) 256 (c .0))
-
-  reweight-there : (server weight : ℕ) → firstOf (reweightRows t server weight) ≡ 0 → (t .count ≤ 256) × (server < t .count)
-  unfolding reweightRows
-  reweight-there server weight z =
-      let a = passed 0 (not (sound t)) _ z in
-      let b = passed 1 (ltb (t .capacity) weight) _ (a .1) in
-      let c = passed 2 (leb (t .count) server) _ (b .1) in
-      (few (a .0), leb-false _ _ (c .0))
-
-  write-there : (m : List ℕ) (id value : ℕ) → firstOf (writeRows t m id value) ≡ 0 → (t .count ≤ 256) × (0 < t .count)
-  unfolding writeRows
-  write-there m id value z =
-      let a = passed 0 (not (sound t)) _ z in
-      let b = passed 1 (leb contentRange id || leb contentRange value) _ (a .1) in
-      let c = passed 2 (eqb (t .count) 0) _ (b .1) in
-      (few (a .0), some-server (c .0))
+few : (t : Table) → sound t ≡ true → t .count ≤ 256
+few t s = sound-facts t s .few
 
 module _ (t u : Table) (g : AgreeBelow t u) where
   same-sound : not (sound t) ≡ not (sound u)
@@ -191,7 +166,7 @@ module _ (t u : Table) (a : Alike t u) where
       let e = addServer-rows t u g m weight in (
         reply-same _ _ e _ _ (λ _. ap (λ (k : ℕ). onServer k 0) (g .count)),
         settle-both _ _ e Alike _ _ t u (λ z. record {
-          agree = agree-withServer t u weight (a .one) (a .other) (addServer-few t m weight z) g;
+          agree = agree-withServer t u weight (a .one) (a .other) (addServer-accepted t m weight z .few) g;
           one = withServer-arrays t weight (a .one);
           other = withServer-arrays u weight (a .other);
         }) a,
@@ -205,9 +180,9 @@ module _ (t u : Table) (a : Alike t u) where
       let e = reweight-rows t u g server weight in (
         reply-same _ _ e _ _ (λ _. refl),
         settle-both _ _ e Alike _ _ t u (λ z.
-            let f = reweight-there t server weight z in
+            let f = reweight-accepted t server weight z in
             record {
-              agree = agree-withWeight t u server weight (a .one) (a .other) (f .0) (f .1) g;
+              agree = agree-withWeight t u server weight (a .one) (a .other) (few t (f .isSound)) (f .there) g;
               one = withWeight-arrays t server weight (a .one);
               other = withWeight-arrays u server weight (a .other);
             }) a,
@@ -223,12 +198,12 @@ module _ (t u : Table) (a : Alike t u) where
       let e = write-rows t u g m id value in (
         reply-same _ _ e _ _ (λ _. ap₂ (λ (k : ℕ) (l : List ℕ). onServer k (length l)) (same-target t u g id) (write-marks t u g m id)),
         settle-both _ _ e Alike _ _ t u (λ z.
-            let f = write-there t m id value z in
+            let f = write-accepted t m id value z in
             record {
               agree = subst (λ (k : ℕ). AgreeBelow (withEntry t (target t id)) (withEntry u k)) (same-target t u g id)
-                  (agree-withEntry t u (target t id) (a .one) (a .other) (f .0) (target-is t id (f .1) .below) g);
+                  (agree-withEntry t u (target t id) (a .one) (a .other) (few t (f .isSound)) (f .there) g);
               one = withEntry-arrays t (target t id) (a .one);
               other = withEntry-arrays u (target u id) (a .other);
             }) a,
-        settle-both _ _ e (_≡_ {A = List ℕ}) _ _ _ _ (λ z. ap (burnAll m) (write-burns t u g m id value (write-there t m id value z .1))) refl,
+        settle-both _ _ e (_≡_ {A = List ℕ}) _ _ _ _ (λ z. ap (burnAll m) (write-burns t u g m id value (omega (arith, write-accepted t m id value z .there)))) refl,
       )
