@@ -7,12 +7,13 @@ use mathlib.Core.List.{List, [], _∷_}
 use mathlib.Core.Option.{Option, none, some}
 use native.Mathlib.Numerals.{add-one}
 use native.Mathlib.Omega.{arith}
-use lib.ListN.{length, set, replicate, length-set, length-replicate, getD-replicate}
-use lib.Seq.{getD-set-same, getD-set-other, ext-getD}
+use lib.ListN.{length, set, length-set}
+use lib.Seq.{getD-set-same, getD-set-other}
 use lib.Dec.{eqb}
 use borrow.Author.Tests.{eqb-true, eqb-false, ne-eqb}
 use Rattle.placement.specs.Below.{nth}
 use Rattle.placement.proofs.Tests.{byBool}
+use Rattle.placement.proofs.Below.{replicate-all}
 use Rattle.medium.specs.Word.{blank}
 use Rattle.table.specs.declared.Table.{Table}
 use Rattle.table.specs.Sound.{tableOf, usedOf}
@@ -197,9 +198,6 @@ module _ (f : ℕ → Reply) (words : List ℕ) where
 
 -- on blank words the replies are the plain ledger's
 module _ (capacity : ℕ) (z : firstOf (startRows capacity) ≡ 0) (m : List ℕ) (b : (a : ℕ) → a < length m → nth m a ≡ blank) where
-  all-blank : m ≡ replicate (length m) blank
-  all-blank = ext-getD 0 m (replicate (length m) blank) (sym (length-replicate {A = ℕ} (length m) blank)) (λ a l. b a l ∙ sym (getD-replicate (length m) a blank 0 l))
-
   ledger-alike : (calls : List Call) (o : Option Call) → compared (replyTo (after (begin capacity (length m)) calls) o) ≡ ledgerReplyTo (ledgerAfter (opening capacity (length m)) calls) o
   unfolding replyTo ledgerReplyTo compared
   ledger-alike calls none = refl
@@ -210,7 +208,7 @@ module _ (capacity : ℕ) (z : firstOf (startRows capacity) ≡ 0) (m : List ℕ
   alike-at : (calls : List ℕ) (i : ℕ) → compared (replyAt (started capacity m) calls i) ≡ ledgerReplyAt capacity (length m) calls i
   unfolding replyAt ledgerReplyAt begin
   alike-at calls i =
-      ap (λ (w : List ℕ). compared (replyTo (after (started capacity w) (callsBelow calls i)) (callAt calls i))) all-blank
+      ap (λ (w : List ℕ). compared (replyTo (after (started capacity w) (callsBelow calls i)) (callAt calls i))) (replicate-all blank m b)
       ∙ ledger-alike (callsBelow calls i) (callAt calls i)
 
 ledger-words : (capacity : ℕ) → firstOf (startRows capacity) ≡ 0 → (m calls words : List ℕ) (n : ℕ) → 5 * n ≤ length words

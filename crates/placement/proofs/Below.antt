@@ -3,8 +3,8 @@
 use Prim.Native.Nat.{ℕ, zero, suc, _+_, _-_, _*_, _≤_, _<_}
 use mathlib.Core.List.{List, [], _∷_, _++_, List·Memᴰ, List·Memᴰ·head, List·Memᴰ·not-nil, List·Memᴰ·append-cases, List·Memᴰ·eq-of-singleton, Memᴰ·append-left, Memᴰ·append-right}
 use mathlib.Core.Logic.{_⊎_, inl, inr}
-use lib.ListN.{length, set, length-set}
-use lib.Seq.{getD-set-same, getD-set-other}
+use lib.ListN.{length, set, replicate, length-set, length-replicate, getD-replicate}
+use lib.Seq.{getD-set-same, getD-set-other, ext-getD}
 use mathlib.Core.Path.{_≡_, refl, sym, ap, _∙_, subst}
 use mathlib.Core.Bool.{Bool, true, false, cond}
 use mathlib.Core.Option.{some}
@@ -184,3 +184,7 @@ setBelow-above f (suc n) xs k l = getD-set-other (setBelow f n xs) n k (f n) 0 (
 pub setBelow-more : (f : ℕ → ℕ) (n : ℕ) (xs ys : List ℕ) (k : ℕ) → ys ≡ setBelow f n xs → k ≡ f n → set ys n k ≡ setBelow f (n + 1) xs
 unfolding setBelow
 setBelow-more f n xs ys k e d = rw (add-one, e, d)
+
+-- a list of one number throughout
+pub replicate-all : (x : ℕ) (xs : List ℕ) → ((k : ℕ) → k < length xs → nth xs k ≡ x) → xs ≡ replicate (length xs) x
+replicate-all x xs h = ext-getD 0 xs (replicate (length xs) x) (sym (length-replicate {A = ℕ} (length xs) x)) (λ k l. h k l ∙ sym (getD-replicate (length xs) k x 0 l))

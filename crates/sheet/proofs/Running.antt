@@ -8,10 +8,10 @@ use mathlib.Core.List.{List}
 use mathlib.Core.Option.{some}
 use native.Mathlib.Numerals.{add-one}
 use native.Mathlib.Omega.{arith}
-use lib.ListN.{length, set, replicate, length-replicate, getD-replicate}
-use lib.Seq.{sets, ext-getD}
+use lib.ListN.{length, set, replicate}
+use lib.Seq.{sets}
 use Rattle.placement.specs.Below.{setBelow}
-use Rattle.placement.proofs.Below.{length-setBelow, setBelow-at}
+use Rattle.placement.proofs.Below.{length-setBelow, setBelow-at, replicate-all}
 use Rattle.medium.specs.Word.{blank}
 use Rattle.table.specs.declared.Table.{Table}
 use Rattle.archive.specs.Refusal.{firstOf}
@@ -43,8 +43,7 @@ pub all-blanked : (words now : List ℕ) (i : ℕ) → now ≡ blanked words i �
 unfolding blanked
 all-blanked words now i e h =
     let same : length now ≡ length words = rw e (length-setBelow (λ _. blank) i words) in
-    ext-getD 0 now (replicate (length words) blank) (same ∙ sym (length-replicate {A = ℕ} (length words) blank)) (λ a l.
-    rw e (setBelow-at (λ _. blank) i words (omega arith) a (omega arith)) ∙ sym (getD-replicate (length words) a blank 0 (omega arith)))
+    replicate-all blank now (λ a l. rw e (setBelow-at (λ _. blank) i words (omega arith) a (omega arith))) ∙ ap (λ (n : ℕ). replicate n blank) same
 
 -- what a function shows of a line whose bytes and sheet are known
 pub shown : (d : Done) {bytes : List ℕ} {s : Sheet} → d ≡ record { bytes = bytes; sheet = s }
