@@ -13,7 +13,7 @@ use Rattle.placement.specs.Draw.{modulus, drawOf}
 use Rattle.placement.specs.Fraction.{exceeds}
 use Rattle.placement.specs.Rule.{readable, takes}
 use Rattle.placement.proofs.Below.{highest-last}
-use Rattle.medium.specs.Entry.{bears, live, Inside, AllInside}
+use Rattle.medium.specs.Entry.{entryAt, bearsAt, live, Inside, AllInside}
 use Rattle.medium.proofs.Places.{server-le}
 use Rattle.medium.proofs.Entries.{live-below}
 use Rattle.table.specs.declared.Table.{Table}
@@ -75,10 +75,10 @@ module _ (t : Table) (m : List ℕ) (id : ℕ) where
     unfolding serversLeft entriesLeft lastLive readable takes
     server-opened d = ap (after opened) (search-last k true l (sym e ∙ d)) ∙ after-opening opened (k - 1) (lastLive t m id (k - 1)) (searchBelow t m id (k - 1))
 
-  -- the highest entry left, likewise; it is one of the used ones
-  module _ (opened k j : ℕ) (l : 0 < j) (u : j ≤ usedOf t k) {r : Bool} (e : r ≡ bears (t .capacity) m id k (j - 1)) where
+  -- the highest entry left, likewise; it is one of the used ones and begins at a
+  module _ (opened k j : ℕ) (l : 0 < j) (u : j ≤ usedOf t k) {a : ℕ} (place : a ≡ entryAt (t .capacity) k (j - 1)) {r : Bool} (e : r ≡ bearsAt m id a) where
     live-here : live (t .capacity) (usedOf t k) m id k (j - 1) ≡ r
-    live-here = live-below (t .capacity) (usedOf t k) m id k (j - 1) (omega arith) ∙ sym e
+    live-here = live-below (t .capacity) (usedOf t k) m id k (j - 1) (omega arith) ∙ sym (e ∙ ap (bearsAt m id) place)
 
     pub entry-skipped : r ≡ false → entriesLeft opened k j ≡ entriesLeft opened k (j - 1)
     unfolding entriesLeft

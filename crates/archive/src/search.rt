@@ -45,7 +45,7 @@ pub fn find<'a>(
             j = used[k] as usize;
             while 0 < j {
                 j -= 1;
-                if medium::bears(medium, entries, id, k, j) {
+                if medium::bears(medium, medium::entry_at(entries, k, j), id) {
                     met = true;
                     break 'search;
                 }

@@ -5,7 +5,7 @@ use Rattle.placement.specs.Below.{nth, allBelow, highest, orZero, upward, count
 use Rattle.placement.specs.Draw.{stepOf, nonzero, seedOf, xorLeft, xorRight, roundOf, drawOf}
 use Rattle.placement.specs.Fraction.{exceeds, atLeast, raise}
 use Rattle.placement.specs.Rule.{shareOf, writeP, takes, pick, writeServer, readable}
-use Rattle.medium.specs.Entry.{serverAt, entryAt, bears, live, blankRun}
+use Rattle.medium.specs.Entry.{serverAt, entryAt, bearsAt, live, blankRun}
 use Rattle.medium.specs.Burn.{burnAll, marksOn, marksOver, invalidations}
 use Rattle.table.specs.Sound.{readSound, serverSound, sound}
 use Rattle.table.specs.Upkeep.{withServer, withWeight, withEntry}
@@ -55,5 +55,5 @@ pub record Example : Type 0 where
   pub word26 : nth (after (begin 4 36) calls .medium) 26 ≡ 2147483649
 
 pub example : Example
-unfolding calls expected allBelow highest orZero upward countBelow total setBelow stepOf nonzero seedOf xorLeft xorRight roundOf drawOf exceeds atLeast raise shareOf writeP takes pick writeServer readable serverAt entryAt bears live blankRun burnAll marksOn marksOver invalidations readSound serverSound sound withServer withWeight withEntry firstOf settle replyBy lastLive opening searchBelow searchFor startRows startTable addServerRows addServerReply addServerTable reweightRows reweightReply reweightTable short target writeRows writeMarks writeBurns writeReply writeTable writeMedium isMet deleteRows deleteMarks deleteReply deleteMedium lookupRows metReply lookupReply compared reply next after replies begin ledgerOpening usedBy standing isStanding enterBy put addServerRowsL withServerL reweightRowsL withWeightL shortL withEvent targetL writeRowsL deleteRowsL lookupRowsL openedFrom standingReply enter ledgerReplies
+unfolding calls expected allBelow highest orZero upward countBelow total setBelow stepOf nonzero seedOf xorLeft xorRight roundOf drawOf exceeds atLeast raise shareOf writeP takes pick writeServer readable serverAt entryAt bearsAt live blankRun burnAll marksOn marksOver invalidations readSound serverSound sound withServer withWeight withEntry firstOf settle replyBy lastLive opening searchBelow searchFor startRows startTable addServerRows addServerReply addServerTable reweightRows reweightReply reweightTable short target writeRows writeMarks writeBurns writeReply writeTable writeMedium isMet deleteRows deleteMarks deleteReply deleteMedium lookupRows metReply lookupReply compared reply next after replies begin ledgerOpening usedBy standing isStanding enterBy put addServerRowsL withServerL reweightRowsL withWeightL shortL withEvent targetL writeRowsL deleteRowsL lookupRowsL openedFrom standingReply enter ledgerReplies
 example = record { machine = refl; ledger = refl; word24 = refl; word25 = refl; word26 = refl }

@@ -10,19 +10,19 @@ use Rattle.placement.specs.Below.{nth}
 use Rattle.placement.proofs.Tests.{and-l, and-r, and-i}
 use Rattle.placement.proofs.Below.{allBelow-in, allBelow-out, allBelow-not, allBelow-more}
 use Rattle.medium.specs.Word.{idWord, blank}
-use Rattle.medium.specs.Entry.{entryAt, markAt, bears, live, blankRun}
+use Rattle.medium.specs.Entry.{entryAt, markAt, bearsAt, bears, live, blankRun}
 
 module _ (capacity : ℕ) (m : List ℕ) (id k j : ℕ) where
   pub bears-i : nth m (entryAt capacity k j) ≡ idWord id → nth m (markAt capacity k j) ≡ blank → bears capacity m id k j ≡ true
-  unfolding bears
+  unfolding bearsAt
   bears-i a b = and-i _ _ (eq-eqb _ _ a) (eq-eqb _ _ b)
 
   pub bears-id : bears capacity m id k j ≡ true → nth m (entryAt capacity k j) ≡ idWord id
-  unfolding bears
+  unfolding bearsAt
   bears-id e = eqb-true _ _ (and-l (eqb (nth m (entryAt capacity k j)) (idWord id)) _ e)
 
   pub bears-mark : bears capacity m id k j ≡ true → nth m (markAt capacity k j) ≡ blank
-  unfolding bears
+  unfolding bearsAt
   bears-mark e = eqb-true _ _ (and-r (eqb (nth m (entryAt capacity k j)) (idWord id)) _ e)
 
 module _ (capacity used : ℕ) (m : List ℕ) (id k j : ℕ) where
@@ -48,7 +48,7 @@ pub record SameEntry (capacity : ℕ) (m m′ : List ℕ) (k j : ℕ) : Type 0 w
   pub markSame : nth m (markAt capacity k j) ≡ nth m′ (markAt capacity k j)
 
 pub bears-cong : (capacity : ℕ) (m m′ : List ℕ) (id k j : ℕ) → SameEntry capacity m m′ k j → bears capacity m id k j ≡ bears capacity m′ id k j
-unfolding bears
+unfolding bearsAt
 bears-cong capacity m m′ id k j s = rw (s .idSame, s .markSame)
 
 pub live-cong : (capacity used : ℕ) (m m′ : List ℕ) (id k j : ℕ) → SameEntry capacity m m′ k j → live capacity used m id k j ≡ live capacity used m′ id k j

@@ -30,7 +30,12 @@ pub entry-before : (capacity k j : ℕ) → j ≤ capacity → entryAt capacity 
 unfolding serverAt entryAt
 entry-before capacity k j h = omega arith
 
--- its words lie between its own server's first word and that of any server above
+-- three words on begins the next entry
+pub entry-next : (capacity k j : ℕ) → entryAt capacity k (j + 1) ≡ entryAt capacity k j + 3
+unfolding entryAt
+entry-next capacity k j = omega arith
+
+-- an entry's words lie between its own server's first word and that of any server above
 pub entry-in : (capacity n k j q : ℕ) → k < n → j < capacity → q < 3 → entryAt capacity k j + q < serverAt capacity n
 unfolding serverAt entryAt
 entry-in capacity n k j q a b c = omega (arith, mul-le-mul-left (3 * capacity) a)

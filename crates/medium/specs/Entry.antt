@@ -21,9 +21,13 @@ valueAt capacity k j = entryAt capacity k j + 1
 abbrev pub markAt : ℕ → ℕ → ℕ → ℕ
 markAt capacity k j = entryAt capacity k j + 2
 
--- an entry bears an id by the medium alone: its id word is that id's and its mark is blank
-unfoldable pub bears : ℕ → List ℕ → ℕ → ℕ → ℕ → Bool
-bears capacity m id k j = eqb (nth m (entryAt capacity k j)) (idWord id) && eqb (nth m (markAt capacity k j)) blank
+-- the entry that begins at an address bears an id by the medium alone: its id word is that id's and its mark is blank
+unfoldable pub bearsAt : List ℕ → ℕ → ℕ → Bool
+bearsAt m id at = eqb (nth m at) (idWord id) && eqb (nth m (at + 2)) blank
+
+-- entry j of server k does
+abbrev pub bears : ℕ → List ℕ → ℕ → ℕ → ℕ → Bool
+bears capacity m id k j = bearsAt m id (entryAt capacity k j)
 
 -- entry j of server k is live for an id: besides, it is below the server's used
 unfoldable pub live : ℕ → ℕ → List ℕ → ℕ → ℕ → ℕ → Bool

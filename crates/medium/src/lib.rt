@@ -3,7 +3,7 @@
 ghost use mathlib.Core.Path.{_≡_};
 ghost use Prim.Native.Nat.{_<_, _≤_, _+_};
 ghost use lib.ListN.{length};
-ghost use Rattle.medium.specs.Entry.{serverAt, entryAt, bears, blankRun, Inside};
+ghost use Rattle.medium.specs.Entry.{serverAt, entryAt, bearsAt, blankRun, Inside};
 ghost use Rattle.medium.specs.Burn.{burnAll, marksOn, invalidations};
 
 // A word that nothing was written to.
@@ -48,13 +48,11 @@ pub fn is_blank(medium: &[u32], from: usize, n: usize) -> bool
     true
 }
 
-// Whether an entry's words bear an id and no mark; an entry below the used ones is live then.
-pub fn bears(medium: &[u32], capacity: usize, id: u32, server: usize, entry: usize) -> bool
-    requires { ⌜ Inside capacity server (now medium) ⌝ }
-    requires { ⌜ entry < capacity ⌝ }
-    ensures { λ r. ⌜ r ≡ bears capacity (now (medium .entry)) id server entry ⌝ }
+// Whether the entry that begins at an address bears an id and no mark; one below the used ones is live then.
+pub fn bears(medium: &[u32], at: usize, id: u32) -> bool
+    requires { ⌜ at + 2 < length (now medium) ⌝ }
+    ensures { λ r. ⌜ r ≡ bearsAt (now (medium .entry)) id at ⌝ }
 {
-    let at = entry_at(capacity, server, entry);
     if medium[at] != id {
         return false;
     }
@@ -78,12 +76,13 @@ pub fn invalidate_server(
 {
     let mut n: usize = 0;
     let mut j: usize = 0;
+    let mut at = entry_at(capacity, server, 0);
     while j < used {
-        if bears(medium, capacity, id, server, j) {
-            let at = entry_at(capacity, server, j);
+        if bears(medium, at, id) {
             medium[at + 2] = 2147483648 + content;
             n += 1;
         }
+        at += 3;
         j += 1;
     }
     n

@@ -7,7 +7,7 @@ use Rattle.placement.specs.Below.{allBelow, highest, orZero, upward, countBelow
 use Rattle.placement.specs.Draw.{stepOf, nonzero, seedOf, xorLeft, xorRight, roundOf, drawOf}
 use Rattle.placement.specs.Fraction.{exceeds, atLeast, raise}
 use Rattle.placement.specs.Rule.{shareOf, writeP, takes, pick, writeServer, readable}
-use Rattle.medium.specs.Entry.{serverAt, entryAt, bears, live, blankRun}
+use Rattle.medium.specs.Entry.{serverAt, entryAt, bearsAt, live, blankRun}
 use Rattle.medium.specs.Burn.{burnAll, marksOn, marksOver, invalidations}
 use Rattle.table.specs.Sound.{readSound, serverSound, sound}
 use Rattle.table.specs.Upkeep.{withServer, withWeight, withEntry}
@@ -53,5 +53,5 @@ output =
     []
 
 pub example : outputOf input (replicate 36 4294967295) .bytes ≡ output
-unfolding input output allBelow highest orZero upward countBelow total setBelow stepOf nonzero seedOf xorLeft xorRight roundOf drawOf exceeds atLeast raise shareOf writeP takes pick writeServer readable serverAt entryAt bears live blankRun burnAll marksOn marksOver invalidations readSound serverSound sound withServer withWeight withEntry firstOf settle replyBy lastLive opening searchBelow searchFor startRows startReply startTable addServerRows addServerReply addServerTable reweightRows reweightReply reweightTable short target writeRows writeMarks writeBurns writeReply writeTable writeMedium isMet deleteRows deleteMarks deleteReply deleteMedium lookupRows metReply lookupReply reply next callOf replyTo nextBy isDigit digitRun valueOf numberAt spaced lineBy hasTwo last first lineOf longer linesOf digits decimal printed question answered started called lineRun run outputOf
+unfolding input output allBelow highest orZero upward countBelow total setBelow stepOf nonzero seedOf xorLeft xorRight roundOf drawOf exceeds atLeast raise shareOf writeP takes pick writeServer readable serverAt entryAt bearsAt live blankRun burnAll marksOn marksOver invalidations readSound serverSound sound withServer withWeight withEntry firstOf settle replyBy lastLive opening searchBelow searchFor startRows startReply startTable addServerRows addServerReply addServerTable reweightRows reweightReply reweightTable short target writeRows writeMarks writeBurns writeReply writeTable writeMedium isMet deleteRows deleteMarks deleteReply deleteMedium lookupRows metReply lookupReply reply next callOf replyTo nextBy isDigit digitRun valueOf numberAt spaced lineBy hasTwo last first lineOf longer linesOf digits decimal printed question answered started called lineRun run outputOf
 example = refl

@@ -1,4 +1,5 @@
--- `medium::invalidate_server` meets its contract. The invariant: the entries passed are done, as `Invalidated` says.
+-- `medium::invalidate_server` meets its contract. The invariant: the entries passed are done, as `Invalidated` says, and the
+-- running address is the next one's.
 use Prim.Native.Nat.{ℕ, _+_, _-_, _≤_, _<_}
 use mathlib.Core.Path.{_≡_, ap, _∙_}
 use mathlib.Core.Logic.{⊎-elim}
@@ -6,60 +7,64 @@ use native.Mathlib.Omega.{arith}
 use borrow.Author.Needs.{needs}
 use lib.ListN.{length, set}
 use Rattle.medium.specs.Word.{markWord}
-use Rattle.medium.proofs.Places.{entry-inside, entry-small}
+use Rattle.medium.specs.Entry.{entryAt, bears}
+use Rattle.medium.proofs.Places.{entry-inside, entry-small, entry-next}
 use Rattle.medium.proofs.Invalidated.{Invalidated, none-done, one-more, none-more, all-done}
 use Rattle.medium.proofs.invalidate_server.Statement.{statement}
 use Rattle.medium.proofs.invalidate_server.Tie as tie
 
 abbrev Inv-loop : tie.InvT-loop
-Inv-loop medium₀ capacity used id server content n₀ j₀ medium n j = (j ≤ used) × Invalidated capacity used medium₀ id server content j medium n
+Inv-loop medium₀ capacity used id server content n₀ j₀ at₀ medium n j at =
+    (j ≤ used) × (at ≡ entryAt capacity server j) × Invalidated capacity used medium₀ id server content j medium n
 
 abbrev μ-loop : tie.MeasureT-loop
-μ-loop medium₀ capacity used id server content n₀ j₀ medium n j = used - j
+μ-loop medium₀ capacity used id server content n₀ j₀ at₀ medium n j at = used - j
 
 -- the start, and the loop's head
 abbrev S : tie.At-loop Inv-loop μ-loop → tie.Start Inv-loop μ-loop
-S l = l .before .before
+S l = l .before .before .before
 
 abbrev L : tie.After-bears Inv-loop μ-loop → tie.At-loop Inv-loop μ-loop
 L c = c .before .before .before
 
-loop-holds : tie.Need-loop-holds Inv-loop μ-loop
-loop-holds c = let a = c .before .args in (search needs, none-done (a .capacity) (a .used) (a .medium .now) (a .id) (a .server) (a .content))
-
-bears-requires : tie.Need-bears-requires Inv-loop μ-loop
-bears-requires c κs =
-    let l = c .before .before in
-    let p = S l .pre .0 in
-    (record { small = p .small; few = p .few; long = omega arith }, omega arith)
-
 entry-at-requires : tie.Need-entry-at-requires Inv-loop μ-loop
 entry-at-requires c κs = search needs
 
+loop-holds : tie.Need-loop-holds Inv-loop μ-loop
+loop-holds c =
+    let a = c .before .before .args in
+    (search needs, c .entry-at .ensures, none-done (a .capacity) (a .used) (a .medium .now) (a .id) (a .server) (a .content))
+
 -- the entry's words lie inside the medium, and its address is small
-room : (c : tie.After-entry-at Inv-loop μ-loop) → (c .entry-at .result + 2 < length (L (c .before .before) .loop .medium)) × (c .entry-at .result ≤ 50331648)
+room : (c : tie.In-loop Inv-loop μ-loop) → (c .before .loop .at + 2 < length (c .before .loop .medium)) × (c .before .loop .at ≤ 50331648)
 room c =
-    let l = L (c .before .before) in
+    let l = c .before in
     let a = S l .args in
     let p = S l .pre .0 in (
       omega (arith, entry-inside (a .capacity) (a .server) (l .loop .j) 2 (a .medium .now) p (omega arith) (omega arith)),
       omega (arith, entry-small (a .capacity) (a .server) (l .loop .j) (p .small) (p .few) (omega arith)),
     )
 
+bears-requires : tie.Need-bears-requires Inv-loop μ-loop
+bears-requires c κs = room (c .before) .0
+
 add-medium : tie.Need-add-medium Inv-loop μ-loop
 add-medium c = search needs
 
 add-medium-2 : tie.Need-add-medium-2 Inv-loop μ-loop
-add-medium-2 c = omega (arith, room c)
+add-medium-2 c = omega (arith, room (c .before .before .before))
 
 mul-medium : tie.Need-mul-medium Inv-loop μ-loop
-mul-medium c = omega (arith, room c)
+mul-medium c = omega (arith, room (c .before .before .before))
 
 slice-write-medium : tie.Need-slice-write-medium Inv-loop μ-loop
-slice-write-medium c = omega (arith, room c)
+slice-write-medium c = omega (arith, room (c .before .before .before))
 
 add-n : tie.Need-add-n Inv-loop μ-loop
 add-n c = search needs
+
+add-at : tie.Need-add-at Inv-loop μ-loop
+add-at c = omega (arith, room (c .before .before .before))
 
 add-j : tie.Need-add-j Inv-loop μ-loop
 add-j c = search needs
@@ -72,28 +77,31 @@ loop-again c =
     let l = L (c .before) in
     let a = S l .args in
     let m = l .loop .medium in
-    let t = c .before .bears in
-    let below : l .loop .j < a .used = omega arith in (
+    let i = l .loop .inv in
+    let t = c .before .bears .result in
+    let below : l .loop .j < a .used = omega arith in
+    let test : t ≡ bears (a .capacity) m (a .id) (a .server) (l .loop .j) = rw (i .1) at (c .before .bears .ensures) in (
       search needs,
+      omega (arith, i .1, entry-next (a .capacity) (a .server) (l .loop .j)),
       ⊎-elim
           (λ w.
-          one-more (a .capacity) (a .used) (a .medium .now) (a .id) (a .server) (a .content) (l .loop .j) m (l .loop .n) (S l .pre .1 .0) below (l .loop .inv .1)
-          (t .result) (t .ensures) (c .if1 .medium) (c .if1 .n) (w .0 .taken) (w .2 ∙ ap (λ (i : ℕ). set m (i + 2) (markWord (a .content))) (w .1 .ensures)) (w .3))
+          one-more (a .capacity) (a .used) (a .medium .now) (a .id) (a .server) (a .content) (l .loop .j) m (l .loop .n) (S l .pre .1 .0) below (i .2)
+          t test (c .if1 .medium) (c .if1 .n) (w .0 .taken) (rw (i .1) at (w .1)) (w .2))
           (λ w.
-          none-more (a .capacity) (a .used) (a .medium .now) (a .id) (a .server) (a .content) (l .loop .j) m (l .loop .n) (S l .pre .1 .0) below (l .loop .inv .1)
-          (t .result) (t .ensures) (c .if1 .medium) (c .if1 .n) (w .0 .left) (w .1) (w .2))
+          none-more (a .capacity) (a .used) (a .medium .now) (a .id) (a .server) (a .content) (l .loop .j) m (l .loop .n) (S l .pre .1 .0) below (i .2)
+          t test (c .if1 .medium) (c .if1 .n) (w .0 .left) (w .1) (w .2))
           (c .if1 .came),
     )
 
 same-length : tie.Need-same-length Inv-loop μ-loop
-same-length c = c .before .loop .inv .1 .long
+same-length c = c .before .loop .inv .2 .long
 
 returns : tie.Need-returns Inv-loop μ-loop
 returns c =
     let l = c .before in
     let a = S l .args in
     let e : l .loop .j ≡ a .used = omega arith in
-    all-done (a .capacity) (a .used) (a .medium .now) (a .id) (a .server) (a .content) (l .loop .medium) (l .loop .n) (rw e at (l .loop .inv .1))
+    all-done (a .capacity) (a .used) (a .medium .now) (a .id) (a .server) (a .content) (l .loop .medium) (l .loop .n) (rw e at (l .loop .inv .2))
 
 pub invalidate-server-spec : {M : Type 1} → statement M
 invalidate-server-spec =
@@ -101,14 +109,15 @@ invalidate-server-spec =
     (tie.spec
     Inv-loop
     μ-loop
+    entry-at-requires
     loop-holds
     bears-requires
-    entry-at-requires
     add-medium
     add-medium-2
     mul-medium
     slice-write-medium
     add-n
+    add-at
     add-j
     loop-less
     loop-again

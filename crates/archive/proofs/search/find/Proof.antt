@@ -8,6 +8,7 @@ use native.Mathlib.Omega.{arith}
 use borrow.Author.Needs.{needs}
 use Rattle.placement.specs.Below.{nth}
 use Rattle.placement.proofs.Tests.{true-not-false}
+use Rattle.medium.proofs.Places.{entry-inside}
 use Rattle.table.specs.declared.Table.{Table}
 use Rattle.table.specs.Sound.{tableOf}
 use Rattle.archive.specs.declared.Found.the-variants.{At}
@@ -47,7 +48,7 @@ abbrev X : tie.At-loop Inv-loop μ-loop Inv-search μ-search → tie.After-takes
 X l = l .before .before .before
 
 abbrev L : tie.After-bears Inv-loop μ-loop Inv-search μ-search → tie.At-loop Inv-loop μ-loop Inv-search μ-search
-L c = c .before .before
+L c = c .before .before .before
 
 -- the server that the search stands at, and the table with these weights
 abbrev K : tie.At-search Inv-loop μ-loop Inv-search μ-search → ℕ
@@ -125,12 +126,20 @@ search-again c =
 sub-j : tie.Need-sub-j Inv-loop μ-loop Inv-search μ-search
 sub-j c = search needs
 
+entry-at-requires : tie.Need-entry-at-requires Inv-loop μ-loop Inv-search μ-search
+entry-at-requires c κs =
+    let q = Q (X (c .before)) in
+    let u = used-here q (search needs) in
+    (S q .pre .small, omega arith, omega arith)
+
 bears-requires : tie.Need-bears-requires Inv-loop μ-loop Inv-search μ-search
 bears-requires c κs =
-    let q = Q (X (c .before)) in
+    let l = c .before .before in
+    let q = Q (X l) in
     let a = S q .args in
     let u = used-here q (search needs) in
-    (each-inside (a .capacity) (a .count) (K q) (nth (a .used .now)) (M q) (S q .pre) (search needs), omega arith)
+    let i = each-inside (a .capacity) (a .count) (K q) (nth (a .used .now)) (M q) (S q .pre) (search needs) in
+    omega (arith, c .entry-at .ensures, entry-inside (a .capacity) (K q) (l .loop .j - 1) 2 (M q) i (omega arith) (omega arith))
 
 loop-less : tie.Need-loop-less Inv-loop μ-loop Inv-search μ-search
 loop-less c = search needs
@@ -141,7 +150,7 @@ loop-again c =
     let q = Q (X l) in (
       search needs,
       l .loop .inv .1,
-      λ ws. l .loop .inv .2 ws ∙ entry-skipped (T q ws) (M q) (N q) (q .search .opened + 1) (K q) (l .loop .j) (search needs) (search needs) (c .before .bears .ensures) (c .if2 .left),
+      λ ws. l .loop .inv .2 ws ∙ entry-skipped (T q ws) (M q) (N q) (q .search .opened + 1) (K q) (l .loop .j) (search needs) (search needs) (c .before .before .entry-at .ensures) (c .before .bears .ensures) (c .if2 .left),
     )
 
 search-less-2 : tie.Need-search-less-2 Inv-loop μ-loop Inv-search μ-search
@@ -165,8 +174,8 @@ returns c ws =
     (λ w.
     let l = w .6 in
     let e : foundBy (searchFor (T q ws) (M q) (N q)) ≡ At (K q) (l .j - 1) (q .search .opened + 1) =
-    l .inv .2 ws ∙ entry-met (T q ws) (M q) (N q) (q .search .opened + 1) (K q) (l .j) (w .7 .taken) (l .inv .0) (w .8 .ensures) (w .9 .taken) in
-    rw (w .13, w .12, w .11) (sym e))
+    l .inv .2 ws ∙ entry-met (T q ws) (M q) (N q) (q .search .opened + 1) (K q) (l .j) (w .7 .taken) (l .inv .0) (w .8 .ensures) (w .9 .ensures) (w .10 .taken) in
+    rw (w .14, w .13, w .12) (sym e))
     (c .before .search-test .came)
 
 -- left by its test: no server is left
@@ -177,7 +186,7 @@ returns-2 c ws =
     (λ w.
     let e : q .search .k ≡ 0 = omega arith in
     rw (w .2) (sym ((rw e at (q .search .inv .2 ws)) ∙ no-server-left (T q ws) (M q) (N q) (q .search .opened))))
-    (λ w. absurd (true-not-false (w .10) (c .if3 .left)))
+    (λ w. absurd (true-not-false (w .11) (c .if3 .left)))
     (c .before .search-test .came)
 
 pub find-spec : {M : Type 1} → statement M
@@ -203,6 +212,7 @@ find-spec =
     search-less
     search-again
     sub-j
+    entry-at-requires
     bears-requires
     loop-less
     loop-again
