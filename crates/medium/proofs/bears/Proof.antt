@@ -1,5 +1,4 @@
 -- `medium::bears` meets its contract: a case for each of the definition's tests.
-use Prim.Native.Nat.{_+_, _<_}
 use borrow.Author.Needs.{needs}
 use borrow.Author.Tests.{eq-eqb, ne-eqb}
 use Rattle.medium.specs.Entry.{bearsAt}

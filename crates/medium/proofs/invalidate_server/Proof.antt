@@ -1,12 +1,11 @@
 -- `medium::invalidate_server` meets its contract. The invariant: the entries passed are done, as `Invalidated` says, and the
 -- running address is the next one's.
-use Prim.Native.Nat.{ℕ, _+_, _-_, _≤_, _<_}
-use mathlib.Core.Path.{_≡_, ap, _∙_}
+use Prim.Native.Nat.{_+_, _-_, _≤_, _<_}
+use mathlib.Core.Path.{_≡_}
 use mathlib.Core.Logic.{⊎-elim}
 use native.Mathlib.Omega.{arith}
 use borrow.Author.Needs.{needs}
-use lib.ListN.{length, set}
-use Rattle.medium.specs.Word.{markWord}
+use lib.ListN.{length}
 use Rattle.medium.specs.Entry.{entryAt, bears}
 use Rattle.medium.proofs.Places.{entry-inside, entry-small, entry-next}
 use Rattle.medium.proofs.Invalidated.{Invalidated, none-done, one-more, none-more, all-done}
