@@ -3,16 +3,17 @@
 use Prim.Native.Nat.{ℕ, zero, suc, _+_, _-_, _*_, _≤_, _<_}
 use mathlib.Core.List.{List, [], _∷_, _++_, List·Memᴰ, List·Memᴰ·head, List·Memᴰ·not-nil, List·Memᴰ·append-cases, List·Memᴰ·eq-of-singleton, Memᴰ·append-left, Memᴰ·append-right}
 use mathlib.Core.Logic.{_⊎_, inl, inr}
-use lib.ListN.{length, set, replicate, length-set, length-replicate, getD-replicate}
-use lib.Seq.{getD-set-same, getD-set-other, ext-getD}
+use lib.ListN.{length, set, replicate, length-set, length-replicate, length-append, getD-replicate}
+use lib.Seq.{sets, getD-set-same, getD-set-other, ext-getD}
 use mathlib.Core.Path.{_≡_, refl, sym, ap, _∙_, subst}
-use mathlib.Core.Bool.{Bool, true, false, cond}
+use mathlib.Core.Bool.{Bool, true, false, cond, not, _&&_, _||_}
 use mathlib.Core.Option.{some}
+use native.Mathlib.Nat.{add-zero, add-suc, suc-add}
 use native.Mathlib.Numerals.{add-one, sub-one}
 use native.Mathlib.Omega.{arith}
 use lib.Dec.{eqb, ltb}
 use borrow.Author.Tests.{eqb-true, eqb-false, ltb-true, ltb-false}
-use Rattle.placement.specs.Below.{nth, allBelow, highest, orZero, upward, countBelow, total, setBelow}
+use Rattle.placement.specs.Below.{nth, allBelow, someBelow, highest, orZero, upward, countBelow, total, setBelow}
 use Rattle.placement.proofs.Tests.{byBool, true-not-false, and-l, and-r, and-i}
 
 -- k is below n where it is below suc n and n does not pass
@@ -118,6 +119,27 @@ unfolding allBelow
 allBelow-cong p q zero h = refl
 allBelow-cong p q (suc n) h = rw (h n (omega arith), allBelow-cong p q n (λ k l. h k (omega arith)))
 
+-- a test of some number below n
+pub someBelow-in : (p : ℕ → Bool) (n k : ℕ) → k < n → p k ≡ true → someBelow p n ≡ true
+unfolding someBelow
+someBelow-in p zero k l e = absurd (omega arith)
+someBelow-in p (suc n) k l e = byBool (p n) (λ d. rw d) (λ d. rw d (someBelow-in p n k (not-top p n k l e d) e))
+
+pub someBelow-none : (p : ℕ → Bool) (n : ℕ) → ((k : ℕ) → k < n → p k ≡ false) → someBelow p n ≡ false
+unfolding someBelow
+someBelow-none p zero h = refl
+someBelow-none p (suc n) h = rw (h n (omega arith)) (someBelow-none p n (λ k l. h k (omega arith)))
+
+-- one number more, as a loop counts
+pub someBelow-more : (p : ℕ → Bool) (n : ℕ) → someBelow p n ≡ false → p n ≡ false → someBelow p (n + 1) ≡ false
+unfolding someBelow
+someBelow-more p n a b = rw (add-one, b, a)
+
+pub someBelow-cong : (p q : ℕ → Bool) (n : ℕ) → ((k : ℕ) → k < n → p k ≡ q k) → someBelow p n ≡ someBelow q n
+unfolding someBelow
+someBelow-cong p q zero h = refl
+someBelow-cong p q (suc n) h = rw (h n (omega arith), someBelow-cong p q n (λ k l. h k (omega arith)))
+
 -- the numbers that pass, as a list
 pub upward-in : (p : ℕ → Bool) (n k : ℕ) → k < n → p k ≡ true → List·Memᴰ k (upward p n)
 unfolding upward
@@ -143,6 +165,11 @@ upward-cong p q zero h = refl
 upward-cong p q (suc n) h = rw (h n (omega arith), upward-cong p q n (λ k l. h k (omega arith)))
 
 -- one number more, as a loop counts
+pub upward-none : (p : ℕ → Bool) (n : ℕ) → ((k : ℕ) → k < n → p k ≡ false) → upward p n ≡ []
+unfolding upward
+upward-none p zero h = refl
+upward-none p (suc n) h = rw (h n (omega arith), upward-none p n (λ k l. h k (omega arith)))
+
 pub upward-more : (p : ℕ → Bool) (n : ℕ) (b : Bool) → p n ≡ b → upward p (n + 1) ≡ upward p n ++ cond b (n ∷ []) []
 unfolding upward
 upward-more p n b e = rw (add-one, e)
@@ -161,6 +188,50 @@ pub countBelow-le : (p : ℕ → Bool) (n : ℕ) → countBelow p n ≤ n
 unfolding countBelow
 countBelow-le p zero = omega arith
 countBelow-le p (suc n) = omega (arith, bit-le (p n), countBelow-le p n)
+
+pub countBelow-none : (p : ℕ → Bool) (n : ℕ) → ((k : ℕ) → k < n → p k ≡ false) → countBelow p n ≡ 0
+unfolding countBelow
+countBelow-none p zero h = refl
+countBelow-none p (suc n) h = rw (h n (omega arith)) (omega (arith, countBelow-none p n (λ k l. h k (omega arith))))
+
+-- more pass below n where a number below it passes than below that number
+pub countBelow-less : (p : ℕ → Bool) (n k : ℕ) → k < n → p k ≡ true → countBelow p k < countBelow p n
+unfolding countBelow
+countBelow-less p zero k l e = absurd (omega arith)
+countBelow-less p (suc n) k l e = byBool (eqb k n)
+    (λ d. rw (eqb-true k n d, ap p (sym (eqb-true k n d)) ∙ e) (omega arith))
+    (λ d. omega (arith, countBelow-less p n k (omega (arith, eqb-false k n d)) e))
+
+length-bit : (n : ℕ) (b : Bool) → length (cond b (n ∷ []) []) ≡ cond b 1 0
+length-bit n true = refl
+length-bit n false = refl
+
+pub length-upward : (p : ℕ → Bool) (n : ℕ) → length (upward p n) ≡ countBelow p n
+unfolding upward countBelow
+length-upward p zero = refl
+length-upward p (suc n) = simp (length-append, length-bit) (omega (arith, length-upward p n))
+
+-- one of two tests passes: the first alone, or the second
+pub bit-either : (a b : Bool) → cond (a && not b) 1 0 + cond b 1 0 ≡ cond (a || b) 1 0
+bit-either true true = refl
+bit-either true false = refl
+bit-either false true = refl
+bit-either false false = refl
+
+pub bit-not : (b : Bool) → cond (not b) 1 0 + cond b 1 0 ≡ 1
+bit-not true = refl
+bit-not false = refl
+
+pub countBelow-either : (p q : ℕ → Bool) (n : ℕ)
+    → countBelow (λ k. p k && not (q k)) n + countBelow q n ≡ countBelow (λ k. p k || q k) n
+unfolding countBelow
+countBelow-either p q zero = refl
+countBelow-either p q (suc n) = omega (arith, bit-either (p n) (q n), countBelow-either p q n)
+
+pub countBelow-not : (p : ℕ → Bool) (n : ℕ) → countBelow (λ k. not (p k)) n + countBelow p n ≡ n
+unfolding countBelow
+countBelow-not p zero = refl
+countBelow-not p (suc n) = omega (arith, bit-not (p n), countBelow-not p n)
 
 -- lists set below n
 pub length-setBelow : (f : ℕ → ℕ) (n : ℕ) (xs : List ℕ) → length (setBelow f n xs) ≡ length xs
@@ -181,10 +252,26 @@ setBelow-above f zero xs k l = refl
 setBelow-above f (suc n) xs k l = getD-set-other (setBelow f n xs) n k (f n) 0 (λ e. omega arith) ∙ setBelow-above f n xs k (omega arith)
 
 -- one number more, as a loop counts
+pub setBelow-cong : (f g : ℕ → ℕ) (n : ℕ) (xs : List ℕ) → ((k : ℕ) → k < n → f k ≡ g k) → setBelow f n xs ≡ setBelow g n xs
+unfolding setBelow
+setBelow-cong f g zero xs h = refl
+setBelow-cong f g (suc n) xs h = rw (setBelow-cong f g n xs (λ k l. h k (omega arith)), h n (omega arith))
+
 pub setBelow-more : (f : ℕ → ℕ) (n : ℕ) (xs ys : List ℕ) (k : ℕ) → ys ≡ setBelow f n xs → k ≡ f n → set ys n k ≡ setBelow f (n + 1) xs
 unfolding setBelow
 setBelow-more f n xs ys k e d = rw (add-one, e, d)
 
 -- a list of one number throughout
+-- zeros, and what is read past their end, are 0
+pub nth-zeros : (n k : ℕ) → nth (replicate n 0) k ≡ 0
+nth-zeros zero k = refl
+nth-zeros (suc n) zero = refl
+nth-zeros (suc n) (suc k) = nth-zeros n k
+
 pub replicate-all : (x : ℕ) (xs : List ℕ) → ((k : ℕ) → k < length xs → nth xs k ≡ x) → xs ≡ replicate (length xs) x
 replicate-all x xs h = ext-getD 0 xs (replicate (length xs) x) (sym (length-replicate {A = ℕ} (length xs) x)) (λ k l. h k l ∙ sym (getD-replicate (length xs) k x 0 l))
+
+-- two runs stored one after the other
+pub sets-append : (l : List ℕ) (at : ℕ) (xs ys : List ℕ) → sets (sets l at xs) (at + length xs) ys ≡ sets l at (xs ++ ys)
+sets-append l at [] ys = rw add-zero
+sets-append l at (x ∷ xs) ys = rw (add-suc, ← suc-add, sets-append (set l at x) (suc at) xs ys)

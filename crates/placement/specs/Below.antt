@@ -1,6 +1,6 @@
 -- Testing, choosing, counting and adding among the numbers below n.
 use Prim.Native.Nat.{ℕ, zero, suc, _+_}
-use mathlib.Core.Bool.{Bool, true, cond, _&&_}
+use mathlib.Core.Bool.{Bool, true, false, cond, _&&_, _||_}
 use mathlib.Core.Option.{Option, none, some}
 use mathlib.Core.List.{List, [], _∷_, _++_}
 use lib.ListN.{getD, set}
@@ -13,6 +13,11 @@ nth xs k = getD xs k 0
 unfoldable pub allBelow : (ℕ → Bool) → ℕ → Bool
 allBelow p zero = true
 allBelow p (suc n) = p n && allBelow p n
+
+-- some number below n passes
+unfoldable pub someBelow : (ℕ → Bool) → ℕ → Bool
+someBelow p zero = false
+someBelow p (suc n) = p n || someBelow p n
 
 -- the highest number below n that passes
 unfoldable pub highest : (ℕ → Bool) → ℕ → Option ℕ

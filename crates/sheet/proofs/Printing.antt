@@ -2,13 +2,13 @@
 use Prim.Native.Nat.{ℕ, zero, suc, _+_, _/_, _%_, _^_, _≤_, _<_}
 use mathlib.Core.Path.{_≡_, ap, _∙_}
 use mathlib.Core.List.{List, [], _∷_, _++_}
-use native.Mathlib.Nat.{add-zero, add-suc, suc-add}
 use native.Mathlib.Numerals.{add-one}
 use native.Mathlib.Omega.{arith}
 use lib.ListN.{length, set, length-append}
 use lib.Seq.{sets}
 use lib.Dec.{ltb}
 use borrow.Author.Tests.{lt-ltb, le-ltb}
+use Rattle.placement.proofs.Below.{sets-append}
 use Rattle.placement.proofs.Tests.{byBool}
 use Rattle.sheet.specs.Print.{digits, decimal, printed}
 
@@ -46,11 +46,6 @@ digits-short (suc n) x = byBool (ltb x 10)
 pub decimal-short : (x : ℕ) → length (decimal x) ≤ 10
 unfolding decimal
 decimal-short x = digits-short 10 x
-
--- two runs, one after the other
-pub sets-append : (l : List ℕ) (at : ℕ) (xs ys : List ℕ) → sets (sets l at xs) (at + length xs) ys ≡ sets l at (xs ++ ys)
-sets-append l at [] ys = rw add-zero
-sets-append l at (x ∷ xs) ys = rw (add-suc, ← suc-add, sets-append (set l at x) (suc at) xs ys)
 
 -- the only digit of a number
 pub put-small : (l : List ℕ) (at x y : ℕ) → x < 10 → y ≡ 48 + x → set l at y ≡ sets l at (decimal x)

@@ -11,6 +11,7 @@ use lib.Seq.{sets, drop-cons, drop-drop}
 use lib.Dec.{ltb, eqb}
 use borrow.Author.Tests.{lt-ltb, le-ltb, ltb-true}
 use Rattle.placement.specs.Below.{nth}
+use Rattle.placement.proofs.Below.{sets-append}
 use Rattle.placement.proofs.Tests.{byBool}
 use Rattle.table.specs.declared.Table.{Table}
 use Rattle.archive.specs.declared.Reply.{Reply}
@@ -20,7 +21,7 @@ use Rattle.sheet.specs.declared.Line.the-variants as line
 use Rattle.sheet.specs.Line.{lineOf, endBelow, endOf, longer, linesOf}
 use Rattle.sheet.specs.Print.{printed, question, answered}
 use Rattle.sheet.specs.Sheet.{Sheet, Done, sheetOf, started, called, lineRun, run, outputOf}
-use Rattle.sheet.proofs.Printing.{decimal-short, sets-append, length-line}
+use Rattle.sheet.proofs.Printing.{decimal-short, length-line}
 
 -- at most 35 bytes a line
 short : (letter refusal a b : ℕ) → length (printed letter refusal a b) ≤ 35
