@@ -9,6 +9,7 @@ use native.Mathlib.Omega.{arith}
 use lib.ListN.{length}
 use lib.Dec.{leb, ltb, eqb}
 use borrow.Author.Tests.{leb-false, eqb-false, not-false}
+use Rattle.placement.specs.Below.{nth}
 use Rattle.placement.specs.Draw.{modulus, drawOf}
 use Rattle.placement.specs.Rule.{pick, writeServer}
 use Rattle.placement.proofs.Tests.{byBool, true-not-false}
@@ -24,13 +25,17 @@ use Rattle.table.proofs.Upkeep.{Arrays, withServer-arrays, withWeight-arrays, w
 use Rattle.table.proofs.Soundness.{sound-facts}
 use Rattle.table.proofs.Agreement.{AgreeBelow, agree-sound, agree-withServer, agree-withWeight, agree-withEntry}
 use Rattle.archive.specs.Refusal.{firstOf}
+use Rattle.archive.specs.declared.Reply.{Reply}
 use Rattle.archive.specs.Reply.{onServer}
-use Rattle.archive.specs.Search.{reads}
+use Rattle.archive.specs.Search.{Search, reads}
+use Rattle.archive.specs.Opened.{lowest, opens, SameOpened}
 use Rattle.archive.specs.Calls.{addServerRows, addServerReply, addServerTable, reweightRows, reweightReply, reweightTable, short, target, writeRows, writeMarks, writeBurns, writeReply, writeTable, writeMedium, deleteRows, deleteMarks, deleteReply, deleteMedium, lookupRows, lookupReply}
+use Rattle.archive.specs.Batch.{batchBy, settledBatch, lookupOpens, openedAt, batchReply}
 use Rattle.archive.proofs.Refusals.{passed, first-same, settle-both, reply-same}
-use Rattle.archive.proofs.Accepted.{addServer-accepted, reweight-accepted, write-accepted}
+use Rattle.archive.proofs.Accepted.{addServer-accepted, reweight-accepted, write-accepted, lookup-accepted}
 use Rattle.archive.proofs.Searches.{reads-same, target-is, deleted-some}
-use Rattle.archive.proofs.OpenedByValues.{opened-by-values}
+use Rattle.archive.proofs.Orders.{batchBy-cong}
+use Rattle.archive.proofs.OpenedByValues.{same-met, opened-by-values}
 
 -- two tables that agree below the count, with their arrays' lengths
 pub record Alike (t u : Table) : Type 0 where
@@ -142,20 +147,48 @@ module _ (t u : Table) (g : AgreeBelow t u) where
         settle-both _ _ e (_≡_ {A = List ℕ}) _ _ _ _ (λ _. ap (λ (l : List ℕ). burnAll m (invalidations deleted l)) (delete-marks m id)) refl,
       )
 
+  -- lookups: the servers that they open are the same in all that counts
+  same-servers : (m : List ℕ) (id : ℕ) → SameOpened t u m m id
+  same-servers m id = record {
+    capacity = g .capacity;
+    count = g .count;
+    weights = g .weight;
+    readPs = g .read;
+    long = refl;
+    used = λ k l o. g .used k l;
+    words = λ k a l o b c. refl;
+  }
+
   pub lookup-below : (m : List ℕ) (id : ℕ) → lookupReply t m id ≡ lookupReply u m id
   unfolding lookupReply lookupRows
   lookup-below m id = byBool (sound t)
-      (λ s. opened-by-values t u m m id s (sym (agree-sound t u g) ∙ s) (record {
-        capacity = g .capacity;
-        count = g .count;
-        weights = g .weight;
-        readPs = g .read;
-        long = refl;
-        used = λ k l o. g .used k l;
-        words = λ k a l o b c. refl;
-      }))
+      (λ s. opened-by-values t u m m id s (sym (agree-sound t u g) ∙ s) (same-servers m id))
       (λ s. reply-same _ _ (first-same 1 _ _ _ _ same-sound (λ e. absurd (true-not-false (not-false _ e) s))) _ _
       (λ z. absurd (true-not-false (not-false _ (passed 0 (not (sound t)) _ z .0)) s)))
+
+  opens-below : (m : List ℕ) (id k : ℕ) → k < t .count → lookupOpens t m id k ≡ lookupOpens u m id k
+  unfolding lookupOpens opens lookupRows
+  opens-below m id k l = settle-both (lookupRows t m id) (lookupRows u m id) rows (_≡_ {A = Bool}) _ _ false false
+      (λ z.
+      let s = lookup-accepted t m id z .isSound in
+      ap₂ (λ (x : Search) (b : Bool). leb (lowest (x .met)) k && b) (same-met t u m m id s (sym (agree-sound t u g) ∙ s) (same-servers m id)) (same-reads id k l))
+      refl
+    where
+      rows : firstOf (lookupRows t m id) ≡ firstOf (lookupRows u m id)
+      rows =
+          first-same 1 _ _ _ _ same-sound (λ _.
+          first-same 2 _ _ _ _ refl (λ _.
+          first-same 3 _ _ _ _ (ap (λ (n : ℕ). eqb n 0) (g .count)) (λ _.
+          first-same 5 _ _ _ _ (same-short m) (λ _. refl))))
+
+  pub batch-below : (m ids : List ℕ) → batchReply t m ids ≡ batchReply u m ids
+  unfolding batchReply openedAt
+  batch-below m ids =
+      let one : (i : ℕ) → lookupReply t m (nth ids i) ≡ lookupReply u m (nth ids i) = λ i. lookup-below m (nth ids i) in
+      ap (settledBatch ids)
+      (batchBy-cong (openedAt t m ids) (openedAt u m ids) (length ids) (t .count) (λ i k b l. opens-below m (nth ids i) k l) _ _ _ _ _ _
+      (λ i b. ap (λ (r : Reply). r .refusal) (one i)) (λ i b. ap (λ (r : Reply). r .value) (one i)) (λ i b. ap (λ (r : Reply). r .opened) (one i))
+      ∙ ap (batchBy _ _ _ (openedAt u m ids) (length ids)) (g .count))
 
 module _ (t u : Table) (a : Alike t u) where
   pub addServer-below : (m : List ℕ) (weight : ℕ)

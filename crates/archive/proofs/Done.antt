@@ -10,10 +10,9 @@ use native.Mathlib.Omega.{arith}
 use lib.ListN.{length, set, length-set}
 use lib.Dec.{leb, eqb}
 use borrow.Author.Tests.{eq-eqb, ne-eqb, le-leb}
-use Rattle.placement.specs.Below.{nth}
 use Rattle.placement.proofs.Tests.{byBool}
-use Rattle.medium.specs.Word.{contentRange, tagOf, contentOf, idWord, valueWord, replaced, deleted}
-use Rattle.medium.specs.Entry.{entryAt, valueAt, AllInside}
+use Rattle.medium.specs.Word.{contentRange, idWord, valueWord, replaced, deleted}
+use Rattle.medium.specs.Entry.{entryAt, AllInside}
 use Rattle.medium.specs.Burn.{burnAll, marksOver, invalidations}
 use Rattle.medium.proofs.Marks.{marksOver-cong}
 use Rattle.table.specs.declared.Table.{Table}
@@ -25,7 +24,7 @@ use Rattle.archive.specs.declared.Refusal.the-variants.{NotFound}
 use Rattle.archive.specs.declared.WriteAnswer.{WriteAnswer}
 use Rattle.archive.specs.declared.WriteAnswer.the-variants.{Written, Refused}
 use Rattle.archive.specs.Refusal.{firstOf}
-use Rattle.archive.specs.Reply.{refused, found, onServer, numberOf, replyOfWrite}
+use Rattle.archive.specs.Reply.{refused, onServer, numberOf, replyOfWrite}
 use Rattle.archive.specs.Search.{Place, Search, reads, searchFor, foundAt, foundBy}
 use Rattle.archive.specs.Calls.{short, target, writeRows, writeMarks, writeReply, writeTable, writeMedium, isMet, deleteRows, deleteMarks, deleteReply, deleteMedium, lookupRows, metReply, lookupReply}
 use Rattle.archive.proofs.Refusals.{settle-yes}
@@ -57,19 +56,19 @@ module _ (s : Search) {f : Found} (e : f ≡ foundBy s) where
           (q ∙ ap₂ (λ (x y : ℕ). some (record { server = x; entry = y })) a b, cc)
 
 module _ (t : Table) (m : List ℕ) (id : ℕ) (z : firstOf (lookupRows t m id) ≡ 0) where
-  -- lookup met nothing, or an entry with this value word
+  -- lookup met nothing, or this entry
   pub looked-none : {r : Found} (n : ℕ) → r ≡ foundBy (searchFor t m id) → r ≡ Nowhere n → refused 8 n ≡ lookupReply t m id
   unfolding lookupReply metReply
   looked-none n e g =
       let f = found-none (searchFor t m id) e n g in
-      sym (reply-done (lookupRows t m id) z _ ∙ ap₂ (λ (n : ℕ) (o : Option Place). metReply t m n o) (f .1) (f .0))
+      sym (reply-done (lookupRows t m id) z _ ∙ ap₂ (metReply (t .capacity) m) (f .1) (f .0))
 
-  pub looked-some : {r : Found} (k j n : ℕ) (b : Bool) → r ≡ foundBy (searchFor t m id) → r ≡ At k j n → eqb (tagOf (nth m (valueAt (t .capacity) k j))) 1 ≡ b
-      → cond b (found (contentOf (nth m (valueAt (t .capacity) k j))) n) (refused 10 n) ≡ lookupReply t m id
-  unfolding lookupReply metReply
-  looked-some k j n b e g q =
+  pub looked-some : {r : Found} (k j n : ℕ) → r ≡ foundBy (searchFor t m id) → r ≡ At k j n
+      → metReply (t .capacity) m n (some (record { server = k; entry = j })) ≡ lookupReply t m id
+  unfolding lookupReply
+  looked-some k j n e g =
       let f = found-some (searchFor t m id) e k j n g in
-      sym (reply-done (lookupRows t m id) z _ ∙ ap₂ (λ (n : ℕ) (o : Option Place). metReply t m n o) (f .1) (f .0) ∙ rw q)
+      sym (reply-done (lookupRows t m id) z _ ∙ ap₂ (metReply (t .capacity) m) (f .1) (f .0))
 
   delete-last : firstOf (deleteRows t m id) ≡ cond (isMet (searchFor t m id .met)) 0 8
   unfolding deleteRows firstOf

@@ -20,7 +20,9 @@ use Rattle.table.specs.declared.Table.{Table}
 use Rattle.table.specs.Sound.{usedOf, readP}
 use Rattle.archive.specs.declared.Found.{Found}
 use Rattle.archive.specs.declared.Found.the-variants.{At, Nowhere}
-use Rattle.archive.specs.Search.{Search, reads, lastLive, opening, searchBelow, searchFor, foundAt, foundBy}
+use Rattle.archive.specs.declared.Newest.{Newest}
+use Rattle.archive.specs.declared.Newest.the-variants.{Entry, Nothing}
+use Rattle.archive.specs.Search.{Search, newestBy, reads, lastLive, opening, searchBelow, searchFor, foundAt, foundBy}
 
 -- each server lies inside the medium if all do
 pub each-inside : (capacity count k : ℕ) (used : ℕ → ℕ) (m : List ℕ) → AllInside capacity count used m → k < count → Inside capacity k m
@@ -29,6 +31,35 @@ each-inside capacity count k used m a l = record {
   few = omega arith;
   long = omega (arith, server-le capacity (suc k) count l);
 }
+
+-- the search of one server k: what its highest entry left says; r is what the code's test of it answers, and it begins at a
+module _ (capacity used : ℕ) (m : List ℕ) (id k j : ℕ) (l : 0 < j) (u : j ≤ used) {a : ℕ} (place : a ≡ entryAt capacity k (j - 1)) {r : Bool} (e : r ≡ bearsAt m id a) where
+  live-here : live capacity used m id k (j - 1) ≡ r
+  live-here = live-below capacity used m id k (j - 1) (omega arith) ∙ sym (e ∙ ap (bearsAt m id) place)
+
+  pub newest-skipped : r ≡ false → highest (live capacity used m id k) j ≡ highest (live capacity used m id k) (j - 1)
+  newest-skipped d = highest-last (live capacity used m id k) j false l (live-here ∙ d)
+
+  pub newest-here : r ≡ true → highest (live capacity used m id k) j ≡ some (j - 1)
+  newest-here d = highest-last (live capacity used m id k) j true l (live-here ∙ d)
+
+-- what that search found, by its answer
+module _ (o : Option ℕ) {n : Newest} (e : n ≡ newestBy o) where
+  pub newest-some : (j : ℕ) → n ≡ Entry j → o ≡ some j
+  unfolding newestBy
+  newest-some j d = go o refl
+    where
+      go : (p : Option ℕ) → o ≡ p → o ≡ some j
+      go none q = let h : n ≡ Nothing = rw q at e in let z : _≡_ {A = ℕ} 0 1 = cc in absurd (omega arith)
+      go (some i) q = let h : n ≡ Entry i = rw q at e in let s : i ≡ j = cc in q ∙ ap some s
+
+  pub newest-none : n ≡ Nothing → o ≡ none
+  unfolding newestBy
+  newest-none d = go o refl
+    where
+      go : (p : Option ℕ) → o ≡ p → o ≡ none
+      go none q = q
+      go (some i) q = let h : n ≡ Entry i = rw q at e in let z : _≡_ {A = ℕ} 0 1 = cc in absurd (omega arith)
 
 -- the answer of a search, with this many servers opened before it
 after : ℕ → Search → Found
@@ -77,16 +108,13 @@ module _ (t : Table) (m : List ℕ) (id : ℕ) where
 
   -- the highest entry left, likewise; it is one of the used ones and begins at a
   module _ (opened k j : ℕ) (l : 0 < j) (u : j ≤ usedOf t k) {a : ℕ} (place : a ≡ entryAt (t .capacity) k (j - 1)) {r : Bool} (e : r ≡ bearsAt m id a) where
-    live-here : live (t .capacity) (usedOf t k) m id k (j - 1) ≡ r
-    live-here = live-below (t .capacity) (usedOf t k) m id k (j - 1) (omega arith) ∙ sym (e ∙ ap (bearsAt m id) place)
-
     pub entry-skipped : r ≡ false → entriesLeft opened k j ≡ entriesLeft opened k (j - 1)
     unfolding entriesLeft
-    entry-skipped d = rw (highest-last (live (t .capacity) (usedOf t k) m id k) j false l (live-here ∙ d))
+    entry-skipped d = rw (newest-skipped (t .capacity) (usedOf t k) m id k j l u place e d)
 
     pub entry-met : r ≡ true → entriesLeft opened k j ≡ At k (j - 1) opened
     unfolding entriesLeft within
-    entry-met d = rw (highest-last (live (t .capacity) (usedOf t k) m id k) j true l (live-here ∙ d))
+    entry-met d = rw (newest-here (t .capacity) (usedOf t k) m id k j l u place e d)
 
   pub no-entry-left : (opened k : ℕ) → entriesLeft opened k 0 ≡ serversLeft opened k
   unfolding entriesLeft serversLeft within highest

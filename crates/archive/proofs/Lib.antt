@@ -12,3 +12,9 @@ pub mod Once
 pub mod OpenedByValues
 pub mod BelowCount
 pub mod Small
+pub mod Orders
+mod Laying
+mod Stepping
+mod Tally
+mod Batches
+mod BatchParts

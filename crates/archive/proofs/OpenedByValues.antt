@@ -64,7 +64,7 @@ module _ (t u : Table) (m w : List ℕ) (id : ℕ) where
         }))
         ∙ ap₂ (λ (c n : ℕ). highest (live c n w id k) n) (a .capacity) (a .used k l o)
 
-    same-met : searchFor t m id ≡ searchFor u w id
+    pub same-met : searchFor t m id ≡ searchFor u w id
     unfolding searchFor opens
     same-met = same-search (t .count) (λ k l. reads-same t u id k (a .readPs k l)) same-last ∙ ap (searchBelow u w id) (a .count)
 
@@ -78,7 +78,7 @@ module _ (t u : Table) (m w : List ℕ) (id : ℕ) where
         same-word (p .server) (p .entry) 1 (b .below) o (live-used (t .capacity) (usedOf t (p .server)) m id (p .server) (p .entry) (b .isLive)) (omega arith)
         ∙ ap (λ (c : ℕ). nth w (valueAt c (p .server) (p .entry))) (a .capacity)
 
-    same-reply : (n : ℕ) (o : Option Place) → searchFor t m id .met ≡ o → metReply t m n o ≡ metReply u w n o
+    same-reply : (n : ℕ) (o : Option Place) → searchFor t m id .met ≡ o → metReply (t .capacity) m n o ≡ metReply (u .capacity) w n o
     unfolding metReply
     same-reply n none e = refl
     same-reply n (some p) e = ap (λ (x : ℕ). cond (eqb (tagOf x) 1) (found (contentOf x) n) (refused 10 n)) (same-value p e)
@@ -95,4 +95,4 @@ module _ (t u : Table) (m w : List ℕ) (id : ℕ) where
     unfolding lookupReply
     opened-by-values = reply-same (lookupRows t m id) (lookupRows u w id) same-rows _ _ (λ _.
         same-reply _ (searchFor t m id .met) refl
-        ∙ ap (λ (x : Search). metReply u w (length (x .opened)) (x .met)) same-met)
+        ∙ ap (λ (x : Search). metReply (u .capacity) w (length (x .opened)) (x .met)) same-met)

@@ -35,7 +35,7 @@ unfolding target
 target-is t id l = writeServer-is (weightOf t) (t .count) id l
 
 -- out of the highest number that passes
-highest-at : (p : ℕ → Bool) (n k : ℕ) → highest p n ≡ some k → (k < n) × (p k ≡ true)
+pub highest-at : (p : ℕ → Bool) (n k : ℕ) → highest p n ≡ some k → (k < n) × (p k ≡ true)
 unfolding highest
 highest-at p zero k e = let z : _≡_ {A = ℕ} 0 1 = cc in absurd (omega arith)
 highest-at p (suc n) k e = byBool (p n)

@@ -80,7 +80,7 @@ module _ (t : Table) where
   unfolding deleteReply deleteMarks deleteRows
   delete-small m id = reply-small (deleteRows t m id) _ (λ z. on-small 0 _ (omega arith) (marks-small m id _ (not-false _ (passed 0 (not (sound t)) _ z .0))))
 
-  met-small : (m : List ℕ) (n : ℕ) → n < 4294967296 → (o : Option Place) → Small (metReply t m n o)
+  met-small : (m : List ℕ) (n : ℕ) → n < 4294967296 → (o : Option Place) → Small (metReply (t .capacity) m n o)
   unfolding metReply
   met-small m n l none = record { server = omega arith; opened = l; invalidated = omega arith }
   met-small m n l (some p) = byBool (eqb (tagOf (nth m (valueAt (t .capacity) (p .server) (p .entry)))) 1)

@@ -143,13 +143,13 @@ lookupRows t m id =
     ∷ []
 
 -- what the search says: 8 where it meets no entry, 10 where the value word that it found is of another tag
-unfoldable pub metReply : Table → List ℕ → ℕ → Option Place → Reply
-metReply t m opened none = refused 8 opened
-metReply t m opened (some p) =
-    let word = nth m (valueAt (t .capacity) (p .server) (p .entry)) in
+unfoldable pub metReply : ℕ → List ℕ → ℕ → Option Place → Reply
+metReply capacity m opened none = refused 8 opened
+metReply capacity m opened (some p) =
+    let word = nth m (valueAt capacity (p .server) (p .entry)) in
     cond (eqb (tagOf word) 1) (found (contentOf word) opened) (refused 10 opened)
 
 unfoldable pub lookupReply : Table → List ℕ → ℕ → Reply
 lookupReply t m id =
     let s = searchFor t m id in
-    replyBy (lookupRows t m id) (metReply t m (length (s .opened)) (s .met))
+    replyBy (lookupRows t m id) (metReply (t .capacity) m (length (s .opened)) (s .met))

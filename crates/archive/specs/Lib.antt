@@ -3,3 +3,5 @@ pub mod Reply
 pub mod Search
 pub mod Calls
 pub mod Opened
+pub mod Batch
+pub mod Batching

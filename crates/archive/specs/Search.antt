@@ -11,6 +11,8 @@ use Rattle.table.specs.declared.Table.{Table}
 use Rattle.table.specs.Sound.{usedOf, readP}
 use Rattle.archive.specs.declared.Found.{Found}
 use Rattle.archive.specs.declared.Found.the-variants.{At, Nowhere}
+use Rattle.archive.specs.declared.Newest.{Newest}
+use Rattle.archive.specs.declared.Newest.the-variants.{Entry, Nothing}
 
 -- an entry by its server and its number there
 pub record Place : Type 0 where
@@ -41,6 +43,11 @@ searchBelow t m id (suc k) = cond (reads t id k) (opening k (lastLive t m id k) 
 
 unfoldable pub searchFor : Table → List ℕ → ℕ → Search
 searchFor t m id = searchBelow t m id (t .count)
+
+-- what the running search of one server answers
+unfoldable pub newestBy : Option ℕ → Newest
+newestBy none = Nothing
+newestBy (some j) = Entry j
 
 -- what the running search answers: the entry met, if any, and how many servers it opened
 unfoldable pub foundAt : ℕ → Option Place → Found

@@ -1,11 +1,14 @@
 // The archive's public calls on a table by value and a lent medium; write, delete and lookup also on borrowed arrays, as
 // `write_in`, `delete_in` and `lookup_in`. None has a `requires`: a call refuses instead.
+mod batching;
 mod checks;
 mod filing;
 mod numbers;
+mod ordering;
 mod search;
 mod upkeep;
 
+pub use batching::lookup_batch;
 pub use filing::delete;
 pub use filing::delete_in;
 pub use filing::write;
@@ -54,6 +57,12 @@ pub enum Found {
     Nowhere(usize),
 }
 
+// The newest entry of an id on a server: the highest-numbered live one.
+pub enum Newest {
+    Entry(usize),
+    Nothing,
+}
+
 // The answer of add_server and reweight: the server's number.
 pub enum ServerAnswer {
     Server(usize),
@@ -76,6 +85,35 @@ pub enum DeleteAnswer {
 pub enum LookupAnswer {
     Found(u32, usize),
     Refused(Refusal, usize),
+}
+
+// How far the lookup of one id in a batch is: its reply so far, refusal 8 while no entry was met, and one more than the last
+// server opened for it, or 0.
+pub struct Progress {
+    pub refusal: u32,
+    pub value: u32,
+    pub opened: u32,
+    pub end: u32,
+}
+
+// The same of up to 256 ids, a number of each for each position.
+pub struct Parts {
+    pub refusals: [u32; 256],
+    pub values: [u32; 256],
+    pub opened: [u32; 256],
+    pub ends: [u32; 256],
+}
+
+// The answer to a batch of lookups. Refusal 0 is acceptance. Each array has a number for each id in the ids' order, and 0 after
+// them: refusal, value and opened count of its lookup. `mounts` is the number of servers opened, and `order` has the positions
+// in the order of finding.
+pub struct Batch {
+    pub refusal: u32,
+    pub mounts: usize,
+    pub refusals: [u32; 256],
+    pub values: [u32; 256],
+    pub opened: [u32; 256],
+    pub order: [u32; 256],
 }
 
 // A reply in document 01's numbers. Refusal 0 is acceptance; what an answer does not carry is 0.

@@ -1,6 +1,6 @@
 // Answers in document 01's numbers.
 ghost use mathlib.Core.Path.{_≡_};
-ghost use Rattle.archive.specs.Reply.{refused, onServer, numberOf, replyOfCheck, replyOfServer, replyOfWrite, replyOfDelete, replyOfLookup};
+ghost use Rattle.archive.specs.Reply.{refused, onServer, numberOf, checkNumber, replyOfCheck, replyOfServer, replyOfWrite, replyOfDelete, replyOfLookup};
 use crate::Check;
 use crate::DeleteAnswer;
 use crate::LookupAnswer;
@@ -23,6 +23,15 @@ fn refusal_number(refusal: Refusal) -> u32
         Refusal::NotFound => 8,
         Refusal::ExceedsFree => 9,
         Refusal::Corrupt => 10,
+    }
+}
+
+pub fn check_number(check: Check) -> u32
+    ensures { λ r. ⌜ r ≡ checkNumber check ⌝ }
+{
+    match check {
+        Check::Accepted => 0,
+        Check::Refused(refusal) => refusal_number(refusal),
     }
 }
 

@@ -1,13 +1,14 @@
 // Lookup: a search over the servers from the highest down, and on each over its entries downward.
 ghost use mathlib.Core.Path.{_≡_};
 ghost use mathlib.Core.List.{List};
-ghost use Prim.Native.Nat.{ℕ};
+ghost use mathlib.Core.Option.{some};
+ghost use Prim.Native.Nat.{ℕ, _<_};
 ghost use Rattle.placement.specs.Below.{nth};
-ghost use Rattle.medium.specs.Entry.{AllInside};
+ghost use Rattle.medium.specs.Entry.{Inside, AllInside};
 ghost use Rattle.table.specs.Sound.{tableOf};
 ghost use Rattle.archive.specs.Search.{searchFor, foundBy};
 ghost use Rattle.archive.specs.Reply.{replyOfLookup};
-ghost use Rattle.archive.specs.Calls.{lookupReply};
+ghost use Rattle.archive.specs.Calls.{metReply, lookupReply};
 use crate::Check;
 use crate::Found;
 use crate::LookupAnswer;
@@ -59,6 +60,26 @@ pub fn find<'a>(
     }
 }
 
+// The answer for the entry that a lookup meets: its value, or that its value word has another tag.
+pub fn met(
+    capacity: u32,
+    medium: &[u32],
+    server: usize,
+    entry: usize,
+    opened: usize,
+) -> LookupAnswer
+    requires { ⌜ Inside capacity server (now medium) ⌝ }
+    requires { ⌜ entry < capacity ⌝ }
+    ensures { λ r. ⌜ replyOfLookup r ≡ metReply capacity (now (medium .entry)) opened (some (record { server = server; entry = entry })) ⌝ }
+{
+    let word = medium[medium::entry_at(capacity as usize, server, entry) + 1];
+    if word / medium::CONTENT_RANGE == 1 {
+        LookupAnswer::Found(word % medium::CONTENT_RANGE, opened)
+    } else {
+        LookupAnswer::Refused(Refusal::Corrupt, opened)
+    }
+}
+
 // Lookup on a table whose arrays are borrowed: the value of an id, or why there is none, and how many servers were opened.
 pub fn lookup_in<'a>(
     capacity: u32,
@@ -88,14 +109,7 @@ pub fn lookup_in<'a>(
     let found = find(capacity, count, used, numerators, denominators, medium, id);
     match found {
         Found::Nowhere(opened) => LookupAnswer::Refused(Refusal::NotFound, opened),
-        Found::At(server, entry, opened) => {
-            let word = medium[medium::entry_at(capacity as usize, server, entry) + 1];
-            if word / medium::CONTENT_RANGE == 1 {
-                LookupAnswer::Found(word % medium::CONTENT_RANGE, opened)
-            } else {
-                LookupAnswer::Refused(Refusal::Corrupt, opened)
-            }
-        }
+        Found::At(server, entry, opened) => met(capacity, medium, server, entry, opened),
     }
 }
 

@@ -30,7 +30,7 @@ use Rattle.history.proofs.Holds.{Written}
 use Rattle.history.proofs.Agree.{Agree, Step, settled, same-short, same-reads, same-met}
 
 module _ {t : Table} {m : List ℕ} {L : Ledger} (A : Agree t m L) (id : ℕ) where
-  same-rows : firstOf (lookupRows t m id) ≡ firstOf (lookupRowsL L id)
+  pub same-rows : firstOf (lookupRows t m id) ≡ firstOf (lookupRowsL L id)
   unfolding firstOf lookupRows lookupRowsL
   same-rows = rw (A .isSound, ap (λ (c : ℕ). eqb c 0) (A .count), same-short A)
 
@@ -52,13 +52,13 @@ module _ {t : Table} {m : List ℕ} {L : Ledger} (A : Agree t m L) (id : ℕ) wh
       let c = stands-came (L .events) id x e in
       rw (c .entryIs) (A .holds .stands (c .last .newer) (c .last .older) id (x .value) (x .server) (c .last .split))
 
-  same-reply : id < range → compared (metReply t m (length (searchFor t m id .opened)) (searchFor t m id .met)) ≡ standingReply L id (standing (L .events) id)
+  same-reply : id < range → compared (metReply (t .capacity) m (length (searchFor t m id .opened)) (searchFor t m id .met)) ≡ standingReply L id (standing (L .events) id)
   unfolding compared metReply standingReply placeOf lowest
   same-reply n =
-      ap₂ (λ (o : ℕ) (p : Option Place). compared (metReply t m o p)) (opened-number ∙ ap (λ (p : Option Place). openedFrom L id (lowest p)) (same-met A id n)) (same-met A id n)
+      ap₂ (λ (o : ℕ) (p : Option Place). compared (metReply (t .capacity) m o p)) (opened-number ∙ ap (λ (p : Option Place). openedFrom L id (lowest p)) (same-met A id n)) (same-met A id n)
       ∙ go (standing (L .events) id) refl
     where
-      go : (o : Option Standing) → standing (L .events) id ≡ o → compared (metReply t m (openedFrom L id (lowest (placeOf o))) (placeOf o)) ≡ standingReply L id o
+      go : (o : Option Standing) → standing (L .events) id ≡ o → compared (metReply (t .capacity) m (openedFrom L id (lowest (placeOf o))) (placeOf o)) ≡ standingReply L id o
       go none e = refl
       go (some x) e =
           let w = stands-written x e in
@@ -81,5 +81,5 @@ module _ {t : Table} {m : List ℕ} {L : Ledger} (A : Agree t m L) (id : ℕ) wh
   unfolding lookupReply replyBy
   looked n l =
       let s = searchFor t m id in
-      ap compared (settle-yes (lookupRows t m id) (metReply t m (length (s .opened)) (s .met)) (refused (firstOf (lookupRows t m id)) 0) (not-refused n l))
+      ap compared (settle-yes (lookupRows t m id) (metReply (t .capacity) m (length (s .opened)) (s .met)) (refused (firstOf (lookupRows t m id)) 0) (not-refused n l))
       ∙ same-reply n

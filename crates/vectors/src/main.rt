@@ -5,6 +5,7 @@ mod comparisons;
 mod draws;
 mod edges;
 mod filings;
+mod payouts;
 mod print;
 mod servers;
 
@@ -28,4 +29,7 @@ fn main() {
     filings::newest_only();
     filings::worked_out_anew();
     filings::at_least_for_exceeds();
+    payouts::batches();
+    payouts::longest();
+    payouts::refused_id_by_id();
 }

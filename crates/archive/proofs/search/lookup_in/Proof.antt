@@ -1,27 +1,20 @@
 -- `archive::lookup_in` meets its contract: what the tests say, and what the search met.
-use Prim.Native.Nat.{ℕ, _+_, _<_}
-use mathlib.Core.Path.{_≡_, sym, ap, _∙_}
-use mathlib.Core.Bool.{Bool, true, false, cond}
+use Prim.Native.Nat.{ℕ}
+use mathlib.Core.Path.{_≡_}
 use mathlib.Core.List.{List}
 use native.Mathlib.Omega.{arith}
-use lib.ListN.{length}
-use lib.Dec.{eqb}
 use borrow.Author.Needs.{needs}
-use borrow.Author.Tests.{eq-eqb, ne-eqb}
-use Rattle.placement.specs.Below.{nth}
-use Rattle.medium.specs.Word.{tagOf, contentOf}
-use Rattle.medium.specs.Entry.{entryAt, valueAt}
-use Rattle.medium.proofs.Places.{entry-in}
 use Rattle.medium.proofs.Entries.{live-used}
 use Rattle.table.specs.declared.Table.{Table}
 use Rattle.table.specs.Sound.{tableOf, usedOf}
 use Rattle.archive.specs.Refusal.{firstOf}
-use Rattle.archive.specs.Reply.{refused, found, numberOf, replyOfLookup}
+use Rattle.archive.specs.Reply.{numberOf, replyOfLookup}
 use Rattle.archive.specs.Search.{searchFor}
-use Rattle.archive.specs.Calls.{lookupRows, lookupReply}
+use Rattle.archive.specs.Calls.{lookupRows}
 use Rattle.archive.specs.Opened.{Met}
 use Rattle.archive.proofs.Answers.{check-refused, check-accepted}
 use Rattle.archive.proofs.Accepted.{Ready, lookup-accepted}
+use Rattle.archive.proofs.Finding.{each-inside}
 use Rattle.archive.proofs.Searches.{met-some}
 use Rattle.archive.proofs.Done.{found-some, looked-none, looked-some, lookup-refused}
 use Rattle.archive.proofs.search.lookup_in.Statement.{statement}
@@ -89,19 +82,8 @@ met-here c =
     let r = R f in
     met-some (T r) (M r) (S r .args .id) _ (found-some (searchFor (T r) (M r) (S r .args .id)) (f .find .ensures (T r .weights)) _ _ _ (c .found2 .given .1) .0)
 
-room : (c : tie.After-found2) → entryAt (T (R (c .before .before)) .capacity) (c .found2 .given .0 .0) (c .found2 .given .0 .1 .0) + 1 < length (M (R (c .before .before)))
-room c =
-    let f = c .before .before in
-    let i = ready-here (E f) .inside in
-    let g = met-here c in
-    let t = T (R f) in
-    let k = c .found2 .given .0 .0 in
-    let j = c .found2 .given .0 .1 .0 in
-    let u = live-used (t .capacity) (usedOf t k) (M (R f)) (S (R f) .args .id) k j (g .isLive) in
-    omega (arith, i .long, entry-in (t .capacity) (t .count) k j 1 (g .below) (omega (arith, i .fits k (g .below))) (omega arith))
-
-entry-at-requires : tie.Need-entry-at-requires
-entry-at-requires c κs =
+met-requires : tie.Need-met-requires
+met-requires c κs =
     let d = c .before in
     let f = d .before .before in
     let i = ready-here (E f) .inside in
@@ -110,39 +92,14 @@ entry-at-requires c κs =
     let k = d .found2 .given .0 .0 in
     let j = d .found2 .given .0 .1 .0 in
     let u = live-used (t .capacity) (usedOf t k) (M (R f)) (S (R f) .args .id) k j (g .isLive) in
-    omega (arith, i .small, i .few, g .below, i .fits k (g .below))
-
-add-word : tie.Need-add-word
-add-word c = let l = room (c .before .before) in omega (arith, c .entry-at .ensures)
-
-mul-word : tie.Need-mul-word
-mul-word c = let l = room (c .before .before) in search needs
-
-shared-slice-read-word : tie.Need-shared-slice-read-word
-shared-slice-read-word c = omega (arith, room (c .before .before .before), c .before .entry-at .ensures)
-
--- the word read is the value word of the entry met
-word-here : (c : tie.After-shared-slice-known2) → nth (M (R (c .before .before .before .before .before))) (c .before .entry-at .result + 1) ≡ nth (M (R (c .before .before .before .before .before))) (valueAt (T (R (c .before .before .before .before .before)) .capacity) (c .before .before .before .found2 .given .0 .0) (c .before .before .before .found2 .given .0 .1 .0))
-word-here c = ap (λ (a : ℕ). nth (M (R (c .before .before .before .before .before))) (a + 1)) (c .before .entry-at .ensures)
-
-told : (c : tie.After-shared-slice-known2) (b : Bool) → eqb (tagOf (nth (M (R (c .before .before .before .before .before))) (c .before .entry-at .result + 1))) 1 ≡ b
-    → cond b (found (contentOf (nth (M (R (c .before .before .before .before .before))) (c .before .entry-at .result + 1))) (c .before .before .before .found2 .given .0 .1 .1 .0)) (refused 10 (c .before .before .before .found2 .given .0 .1 .1 .0))
-    ≡ lookupReply (T (R (c .before .before .before .before .before))) (M (R (c .before .before .before .before .before))) (S (R (c .before .before .before .before .before)) .args .id)
-told c b e =
-    let d = c .before .before .before in
-    let f = d .before .before in
-    let r = R f in
-    let n = d .found2 .given .0 .1 .1 .0 in
-    ap (λ (w : ℕ). cond b (found (contentOf w) n) (refused 10 n)) (word-here c)
-    ∙ looked-some (T r) (M r) (S r .args .id) (accepted-here (E f)) _ _ n b (f .find .ensures (T r .weights)) (d .found2 .given .1) (ap (λ (w : ℕ). eqb (tagOf w) 1) (sym (word-here c)) ∙ e)
+    (each-inside (t .capacity) (t .count) k (usedOf t) (M (R f)) i (g .below), omega (arith, i .fits k (g .below)))
 
 returns-3 : tie.Need-returns-3
-unfolding replyOfLookup
-returns-3 c = told (c .before) true (eq-eqb _ _ (c .if1 .taken))
-
-returns-4 : tie.Need-returns-4
-unfolding replyOfLookup numberOf
-returns-4 c = told (c .before) false (ne-eqb _ _ (c .if1 .left))
+returns-3 c =
+    let d = c .before .before in
+    let f = d .before .before in
+    let r = R f in
+    rw (c .met .ensures) (looked-some (T r) (M r) (S r .args .id) (accepted-here (E f)) _ _ _ (f .find .ensures (T r .weights)) (d .found2 .given .1))
 
 pub lookup-in-spec : {M : Type 1} → statement M
 lookup-in-spec =
@@ -155,10 +112,6 @@ lookup-in-spec =
     find-requires
     enum-known-found
     enum-known-found-2
-    entry-at-requires
-    add-word
-    mul-word
-    shared-slice-read-word
+    met-requires
     returns-2
-    returns-3
-    returns-4)
+    returns-3)
