@@ -15,6 +15,7 @@ pub mod Run
 pub mod Never
 pub mod Counting
 pub mod Unaltered
+mod Batches
 pub mod Theorem
 pub mod LiveRule
 pub mod Replaying

@@ -1,9 +1,9 @@
--- The third demand: what holds after every list of calls from a fresh table and blank words.
+-- The third demand: what holds after every list of calls, and of batches of lookups between them, from a fresh table and blank words.
 use Prim.Native.Nat.{ℕ, _≤_, _<_}
 use mathlib.Core.Bool.{Bool, true, not, _&&_}
 use mathlib.Core.Path.{_≡_}
 use mathlib.Core.Logic.{_↔_, _≢_}
-use mathlib.Core.List.{List, [], _∷_, _++_, map, List·Memᴰ}
+use mathlib.Core.List.{List, [], _∷_, _++_, List·Memᴰ}
 use lib.ListN.{length}
 use lib.Dec.{eqb}
 use Rattle.placement.specs.Below.{nth}
@@ -11,9 +11,9 @@ use Rattle.medium.specs.Word.{idWord, valueWord, blank}
 use Rattle.medium.specs.Entry.{entryAt, valueAt}
 use Rattle.archive.specs.declared.Reply.{Reply}
 use Rattle.archive.specs.Calls.{lookupReply}
-use Rattle.history.specs.Call.{Call, compared}
-use Rattle.history.specs.Machine.{State, after, replies, begin, liveEntries}
-use Rattle.history.specs.Ledger.{Event, wrote, deleted, Ledger, opening, usedBy, writes, range, ledgerAfter, ledgerReplies}
+use Rattle.history.specs.Call.{Call, Turn, callsOf}
+use Rattle.history.specs.Machine.{State, after, replies, answers, begin, liveEntries}
+use Rattle.history.specs.Ledger.{Event, wrote, deleted, Ledger, opening, usedBy, writes, range, ledgerAfter, ledgerAnswers}
 
 -- no event of an id among these
 unfoldable pub untouched : ℕ → List Event → Bool
@@ -49,31 +49,43 @@ module _ (capacity n : ℕ) (calls : List Call) where
   abbrev pub lookupThen : ℕ → Reply
   lookupThen id = lookupReply (stateThen .table) (stateThen .medium) id
 
+-- the same of a list in which batches of lookups may stand between the calls
+module _ (capacity n : ℕ) (turns : List Turn) where
+  abbrev S : State
+  S = stateThen capacity n (callsOf turns)
+
+  abbrev L : Ledger
+  L = ledgerThen capacity n (callsOf turns)
+
+  abbrev found : ℕ → Reply
+  found id = lookupThen capacity n (callsOf turns) id
+
   pub record Demand3 : Type 0 where
-    -- each call answers with the refusal number, server, value and opened count that the ledger gives
-    pub alike : map compared (replies (begin capacity n) calls) ≡ ledgerReplies (opening capacity n) calls
+    -- each call answers with the refusal number, server, value and opened count that the ledger gives, and each batch with the
+    -- ledger's whole answer
+    pub alike : answers (begin capacity n) turns ≡ ledgerAnswers (opening capacity n) turns
     -- a lookup finds the value of the last accepted write of the id with no accepted delete afterwards
-    pub finds : (id value server : ℕ) → LastWrite eventsThen id value server
-        → (lookupThen id .refusal ≡ 0) × (lookupThen id .value ≡ value)
+    pub finds : (id value server : ℕ) → LastWrite (L .events) id value server
+        → (found id .refusal ≡ 0) × (found id .value ≡ value)
     -- and answers 'absent' exactly when there is no such write, once a server is there and for ids in range
-    pub absent : (id : ℕ) → id < range → 0 < ledgerThen .servers
-        → (lookupThen id .refusal ≡ 8) ↔ ((value server : ℕ) → LastWrite eventsThen id value server → ⊥)
+    pub absent : (id : ℕ) → id < range → 0 < L .servers
+        → (found id .refusal ≡ 8) ↔ ((value server : ℕ) → LastWrite (L .events) id value server → ⊥)
     -- every word that is not blank after some first part of the list stands unaltered after all of it
-    pub unaltered : (before later : List Call) → before ++ later ≡ calls → (a : ℕ)
+    pub unaltered : (before later : List Call) → before ++ later ≡ callsOf turns → (a : ℕ)
         → nth (after (begin capacity n) before .medium) a ≢ blank
-        → nth (stateThen .medium) a ≡ nth (after (begin capacity n) before .medium) a
+        → nth (S .medium) a ≡ nth (after (begin capacity n) before .medium) a
     -- id and value of each accepted write stand on the server that the ledger gave it, in the entry that was then its used
     pub stands : (newer older : List Event) (id value server : ℕ)
-        → eventsThen ≡ newer ++ (wrote id value server ∷ older)
-        → Stands stateThen ledgerThen id value server (usedBy older server)
+        → L .events ≡ newer ++ (wrote id value server ∷ older)
+        → Stands S L id value server (usedBy older server)
     -- which is its own: two accepted writes with the same entry of the same server are the same write
     pub own : (newer older newer′ older′ : List Event) (id value id′ value′ server : ℕ)
-        → eventsThen ≡ newer ++ (wrote id value server ∷ older)
-        → eventsThen ≡ newer′ ++ (wrote id′ value′ server ∷ older′)
+        → L .events ≡ newer ++ (wrote id value server ∷ older)
+        → L .events ≡ newer′ ++ (wrote id′ value′ server ∷ older′)
         → usedBy older server ≡ usedBy older′ server
         → length older ≡ length older′
     -- the live entries of all ids together are at most the accepted writes
-    pub live : liveEntries stateThen ≤ writes eventsThen
+    pub live : liveEntries S ≤ writes (L .events)
     -- 1, 7 and 10 never come
-    pub never : (r : Reply) → List·Memᴰ r (replies (begin capacity n) calls)
+    pub never : (r : Reply) → List·Memᴰ r (replies (begin capacity n) (callsOf turns))
         → (r .refusal ≢ 1) × (r .refusal ≢ 7) × (r .refusal ≢ 10)

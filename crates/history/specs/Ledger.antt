@@ -1,16 +1,20 @@
 -- The plain ledger (document 01, "The plain ledger"). It is fed the capacity, the medium's length and the calls' arguments,
--- and nothing from table or medium; of the archive it shares the published rule alone.
+-- and nothing from table or medium; of the archive it shares the published rule, and how rows of refusals and the parts of a
+-- batch are put together.
 use Prim.Native.Nat.{ℕ, suc, _+_, _-_, _*_}
 use mathlib.Core.Bool.{Bool, true, false, cond, not, _&&_, _||_}
 use mathlib.Core.List.{List, [], _∷_}
 use mathlib.Core.Option.{Option, none, some}
+use lib.ListN.{length}
 use lib.Dec.{leb, ltb, eqb}
 use Rattle.placement.specs.declared.Fraction.{Fraction}
-use Rattle.placement.specs.Below.{countBelow}
+use Rattle.placement.specs.Below.{nth, countBelow}
 use Rattle.placement.specs.Fraction.{raise}
 use Rattle.placement.specs.Rule.{writeP, writeServer, readable}
 use Rattle.archive.specs.Refusal.{Row, _when_, firstOf, settle}
-use Rattle.history.specs.Call.{Call, addServer, reweight, write, delete, lookup, Compared}
+use Rattle.archive.specs.declared.Batch.{Batch}
+use Rattle.archive.specs.Batch.{batchBy, settledBatch}
+use Rattle.history.specs.Call.{Call, addServer, reweight, write, delete, lookup, Turn, call, batch, Compared, Answer, one, many}
 
 -- an accepted write (id, value, server) or an accepted delete
 pub data Event : Type 0 where
@@ -195,6 +199,29 @@ enter L (delete id) =
 enter L (lookup id) =
     enterBy L (lookupRowsL L id) (record { reply = standingReply L id (standing (L .events) id); ledger = L })
 
+-- a batch of lookups, which changes nothing: the replies of its lookups, and the servers that they open
+
+unfoldable pub standsFrom : Option Standing → ℕ
+standsFrom none = 0
+standsFrom (some x) = x .server
+
+unfoldable pub opensL : Ledger → ℕ → ℕ → Bool
+opensL L id k = settle (lookupRowsL L id) (leb (standsFrom (standing (L .events) id)) k && readable (L .greatest) id k) false
+
+unfoldable pub openedAtL : Ledger → List ℕ → ℕ → ℕ → Bool
+openedAtL L ids i k = opensL L (nth ids i) k
+
+unfoldable pub batchL : Ledger → List ℕ → Batch
+batchL L ids =
+    settledBatch ids
+    (batchBy
+    (λ i. enter L (lookup (nth ids i)) .reply .refusal)
+    (λ i. enter L (lookup (nth ids i)) .reply .value)
+    (λ i. enter L (lookup (nth ids i)) .reply .opened)
+    (openedAtL L ids)
+    (length ids)
+    (L .servers))
+
 unfoldable pub ledgerAfter : Ledger → List Call → Ledger
 ledgerAfter L [] = L
 ledgerAfter L (c ∷ cs) = ledgerAfter (enter L c .ledger) cs
@@ -202,3 +229,8 @@ ledgerAfter L (c ∷ cs) = ledgerAfter (enter L c .ledger) cs
 unfoldable pub ledgerReplies : Ledger → List Call → List Compared
 ledgerReplies L [] = []
 ledgerReplies L (c ∷ cs) = enter L c .reply ∷ ledgerReplies (enter L c .ledger) cs
+
+unfoldable pub ledgerAnswers : Ledger → List Turn → List Answer
+ledgerAnswers L [] = []
+ledgerAnswers L (call c ∷ turns) = one (enter L c .reply) ∷ ledgerAnswers (enter L c .ledger) turns
+ledgerAnswers L (batch ids ∷ turns) = many (batchL L ids) ∷ ledgerAnswers L turns

@@ -11,7 +11,8 @@ use Rattle.table.specs.declared.Table.{Table}
 use Rattle.table.specs.Sound.{usedOf}
 use Rattle.archive.specs.declared.Reply.{Reply}
 use Rattle.archive.specs.Calls.{startTable, addServerReply, addServerTable, reweightReply, reweightTable, writeReply, writeTable, writeMedium, deleteReply, deleteMedium, lookupReply}
-use Rattle.history.specs.Call.{Call, addServer, reweight, write, delete, lookup}
+use Rattle.archive.specs.Batch.{batchReply}
+use Rattle.history.specs.Call.{Call, addServer, reweight, write, delete, lookup, Turn, call, batch, compared, Answer, one, many}
 
 pub record State : Type 0 where
   pub table : Table
@@ -38,6 +39,12 @@ after S (c ∷ cs) = after (next S c) cs
 unfoldable pub replies : State → List Call → List Reply
 replies S [] = []
 replies S (c ∷ cs) = reply S c ∷ replies (next S c) cs
+
+-- the answers to a list of turns
+unfoldable pub answers : State → List Turn → List Answer
+answers S [] = []
+answers S (call c ∷ turns) = one (compared (reply S c)) ∷ answers (next S c) turns
+answers S (batch ids ∷ turns) = many (batchReply (S .table) (S .medium) ids) ∷ answers S turns
 
 -- a started table over n blank words
 unfoldable pub begin : ℕ → ℕ → State
