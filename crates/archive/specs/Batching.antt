@@ -17,15 +17,16 @@ use Rattle.archive.specs.declared.Parts.{Parts}
 use Rattle.archive.specs.Calls.{metReply}
 use Rattle.archive.specs.Batch.{endsAt, filled}
 
--- the refusal of an id before any server is opened: 8, absent so far, where no test applies. `number` is what the tests say of
--- id 0; they differ for another id by its range alone, which comes after the table's soundness.
+-- an id that no test refuses is absent so far, by its number 8
 unfoldable pub absentSoFar : ℕ → ℕ
 absentSoFar number = cond (eqb number 0) 8 number
 
+-- the refusal of an id before any server is opened. `number` is what the tests say of id 0, which is in range; for another id they
+-- differ by its range alone, right after the table's soundness
 unfoldable pub firstRefusal : ℕ → ℕ → ℕ
 firstRefusal number id = cond (eqb number 1) 1 (cond (leb contentRange id) 2 (absentSoFar number))
 
--- server k is opened for an id that has had this many with it: its newest entry ends the search
+-- server k is opened for an id, as one of this many: an entry there ends the search
 unfoldable pub visited : ℕ → List ℕ → ℕ → ℕ → Option ℕ → Progress
 visited capacity m k opened none = record { refusal = 8; value = 0; opened = opened; end = suc k }
 visited capacity m k opened (some j) =

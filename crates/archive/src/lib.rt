@@ -104,9 +104,9 @@ pub struct Parts {
     pub ends: [u32; 256],
 }
 
-// The answer to a batch of lookups. Refusal 0 is acceptance. Each array has a number for each id in the ids' order, and 0 after
-// them: refusal, value and opened count of its lookup. `mounts` is the number of servers opened, and `order` has the positions
-// in the order of finding.
+// The answer to a batch of lookups. Refusal 0 is acceptance. `refusals`, `values` and `opened` have for each id, in the ids'
+// order, what its lookup answers, and `order` has the ids' positions in the order of finding; after that each array is 0.
+// `mounts` is the number of servers opened for all ids together.
 pub struct Batch {
     pub refusal: u32,
     pub mounts: usize,
