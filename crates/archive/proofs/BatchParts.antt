@@ -64,7 +64,7 @@ module _ (t : Table) (m ids : List ℕ) where
     pub few : n ≤ 256
     pub long : (length (parts .refusals) ≡ 256) × (length (parts .values) ≡ 256) × (length (parts .opened) ≡ 256) × (length (parts .ends) ≡ 256)
 
-  first-parts : n ≤ 256 → PartsFrom (settle (lookupRows t m 0) (t .count) 0) (firstParts (firstOf (lookupRows t m 0)) ids)
+  first-parts : n ≤ 256 → PartsFrom (settle (lookupRows t m 0) (t .count) 0) (firstParts (firstOf (lookupRows t m 0)) ids n)
   unfolding firstParts filled
   first-parts few = record {
     few = few;
@@ -209,7 +209,7 @@ module _ (t : Table) (m ids : List ℕ) where
     pub counted : mounted + countBelow (λ j. someBelow (λ i. openedAt t m ids i j) n) k ≡ mounts (openedAt t m ids) n (t .count)
 
   pub batch-start : n ≤ 256 → (number s : ℕ) → number ≡ firstOf (lookupRows t m 0) → s ≡ servers
-      → (parts : Parts) → parts ≡ firstParts number ids → BatchFrom s parts 0
+      → (parts : Parts) → parts ≡ firstParts number ids n → BatchFrom s parts 0
   batch-start few number s a b parts e = rw (e, a, b) (record { done = first-parts few; below = omega arith; counted = omega (arith, servers-mounts) })
 
   -- no more servers are opened than there are

@@ -98,9 +98,9 @@ module _ (t : Table) (m : List ℕ) (id : ℕ) where
   opens-none z k = settle-no (lookupRows t m id) (opens t m id k) false z
 
   -- where the search meets an entry, no server below is opened
-  opens-below : (p : Place) → firstOf (lookupRows t m id) ≡ 0 → searchFor t m id .met ≡ some p → (i : ℕ) → i < p .server → lookupOpens t m id i ≡ false
+  closed-below : (p : Place) → firstOf (lookupRows t m id) ≡ 0 → searchFor t m id .met ≡ some p → (i : ℕ) → i < p .server → lookupOpens t m id i ≡ false
   unfolding opens lowest
-  opens-below p z e i b = opens-ready z i ∙ rw (e, lt-leb (p .server) i b)
+  closed-below p z e i b = opens-ready z i ∙ rw (e, lt-leb (p .server) i b)
 
   reply-met : (o : Option Place) → firstOf (lookupRows t m id) ≡ 0 → searchFor t m id .met ≡ o
       → lookupReply t m id ≡ metReply (t .capacity) m (length (searchFor t m id .opened)) o
@@ -224,7 +224,7 @@ module _ (t : Table) (m : List ℕ) (id : ℕ) where
           notAbsent = met-not-absent (t .capacity) m (suc (p .opened)) here;
           refusal = same .0 ∙ sym (ap (λ (x : Reply). x .refusal) reply);
           value = same .1 ∙ sym (ap (λ (x : Reply). x .value) reply);
-          closed = λ i b. opens-below here (s .ready) e i b;
+          closed = λ i b. closed-below here (s .ready) e i b;
         }))
 
     step-pending : (p : Progress) → DoneFrom (suc k) p → Pending (suc k) p → Stepped (Next p)

@@ -44,10 +44,10 @@ stepped read capacity used m id k p =
 abbrev pub progressAt : Parts → ℕ → Progress
 progressAt parts i = record { refusal = nth (parts .refusals) i; value = nth (parts .values) i; opened = nth (parts .opened) i; end = nth (parts .ends) i }
 
--- before any server is opened
-unfoldable pub firstParts : ℕ → List ℕ → Parts
-firstParts number ids = record {
-  refusals = filled (λ i. firstRefusal number (nth ids i)) (length ids);
+-- before any server is opened, for the first n ids
+unfoldable pub firstParts : ℕ → List ℕ → ℕ → Parts
+firstParts number ids n = record {
+  refusals = filled (λ i. firstRefusal number (nth ids i)) n;
   values = replicate 256 0;
   opened = replicate 256 0;
   ends = replicate 256 0;

@@ -38,7 +38,7 @@ fn first_refusal(number: u32, id: u32) -> u32
 // Every id's part before any server is opened.
 fn begin(ids: &[u32], number: u32) -> Parts
     requires { ⌜ length (now ids) ≤ 256 ⌝ }
-    ensures { λ r. ⌜ r ≡ firstParts number (now (ids .entry)) ⌝ }
+    ensures { λ r. ⌜ r ≡ firstParts number (now (ids .entry)) (length (now (ids .entry))) ⌝ }
 {
     let mut parts = Parts {
         refusals: [0; 256],

@@ -1,6 +1,6 @@
 -- `archive::batching::begin` meets its contract. The invariant: the refusals of the ids passed are stored, and nothing else.
 use Prim.Native.Nat.{ℕ, _+_, _-_, _≤_}
-use mathlib.Core.Path.{_≡_, refl, ap, _∙_}
+use mathlib.Core.Path.{_≡_, refl}
 use mathlib.Core.List.{List}
 use native.Mathlib.Omega.{arith}
 use lib.ListN.{length, set, replicate}
@@ -13,39 +13,26 @@ use Rattle.archive.specs.Batching.{firstRefusal, firstParts}
 use Rattle.archive.proofs.batching.begin.Statement.{statement}
 use Rattle.archive.proofs.batching.begin.Tie as tie
 
--- the refusal of the id at a position
-abbrev refusalOf : ℕ → List ℕ → ℕ → ℕ
-refusalOf number ids i = firstRefusal number (nth ids i)
-
--- the parts with n refusals stored
-unfoldable partsOf : ℕ → List ℕ → ℕ → Parts
-partsOf number ids n = record {
-  refusals = filled (refusalOf number ids) n;
-  values = replicate 256 0;
-  opened = replicate 256 0;
-  ends = replicate 256 0;
-}
-
 -- one refusal more
-stored : (number : ℕ) (ids : List ℕ) (n : ℕ) (parts : Parts) (refusal : ℕ) → parts ≡ partsOf number ids n → refusal ≡ refusalOf number ids n
+stored : (number : ℕ) (ids : List ℕ) (n : ℕ) (parts : Parts) (refusal : ℕ) → parts ≡ firstParts number ids n → refusal ≡ firstRefusal number (nth ids n)
     → record {
       refusals = set (parts .refusals) n refusal;
       values = parts .values;
       opened = parts .opened;
       ends = parts .ends;
     }
-    ≡ partsOf number ids (n + 1)
-unfolding partsOf filled
-stored number ids n parts refusal e d = rw (e, setBelow-more (refusalOf number ids) n (replicate 256 0) _ refusal refl d)
+    ≡ firstParts number ids (n + 1)
+unfolding firstParts filled
+stored number ids n parts refusal e d = rw (e, setBelow-more (λ i. firstRefusal number (nth ids i)) n (replicate 256 0) _ refusal refl d)
 
 abbrev Inv-loop : tie.InvT-loop
-Inv-loop ids number parts₀ i₀ parts i = (i ≤ length ids) × (parts ≡ partsOf number ids i)
+Inv-loop ids number parts₀ i₀ parts i = (i ≤ length ids) × (parts ≡ firstParts number ids i)
 
 abbrev μ-loop : tie.MeasureT-loop
 μ-loop ids number parts₀ i₀ parts i = length ids - i
 
 loop-holds : tie.Need-loop-holds Inv-loop μ-loop
-unfolding partsOf filled setBelow
+unfolding firstParts filled setBelow
 loop-holds c = search needs
 
 mul-first-refusal : tie.Need-mul-first-refusal Inv-loop μ-loop
@@ -76,12 +63,10 @@ loop-again c =
     (search needs, stored (a .number) (a .ids .now) (l .loop .i) (l .loop .parts) _ (l .loop .inv .1) (c .first-refusal .ensures))
 
 returns : tie.Need-returns Inv-loop μ-loop
-unfolding partsOf firstParts
 returns c =
     let l = c .before in
-    let a = l .before .before .args in
-    let e : l .loop .i ≡ length (a .ids .now) = omega arith in
-    l .loop .inv .1 ∙ ap (partsOf (a .number) (a .ids .now)) e
+    let e : l .loop .i ≡ length (l .before .before .args .ids .now) = omega arith in
+    rw e at (l .loop .inv .1)
 
 pub begin-spec : {M : Type 1} → statement M
 begin-spec =
