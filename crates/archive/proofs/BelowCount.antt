@@ -30,11 +30,11 @@ use Rattle.archive.specs.Reply.{onServer}
 use Rattle.archive.specs.Search.{Search, reads}
 use Rattle.archive.specs.Opened.{lowest, opens, SameOpened}
 use Rattle.archive.specs.Calls.{addServerRows, addServerReply, addServerTable, reweightRows, reweightReply, reweightTable, short, target, writeRows, writeMarks, writeBurns, writeReply, writeTable, writeMedium, deleteRows, deleteMarks, deleteReply, deleteMedium, lookupRows, lookupReply}
-use Rattle.archive.specs.Batch.{batchBy, settledBatch, lookupOpens, openedAt, batchReply}
+use Rattle.archive.specs.Batch.{lookupOpens, openedAt, batchReply}
 use Rattle.archive.proofs.Refusals.{passed, first-same, settle-both, reply-same}
 use Rattle.archive.proofs.Accepted.{addServer-accepted, reweight-accepted, write-accepted, lookup-accepted}
 use Rattle.archive.proofs.Searches.{reads-same, target-is, deleted-some}
-use Rattle.archive.proofs.Orders.{batchBy-cong}
+use Rattle.archive.proofs.Orders.{batch-cong}
 use Rattle.archive.proofs.OpenedByValues.{same-met, opened-by-values}
 
 -- two tables that agree below the count, with their arrays' lengths
@@ -183,12 +183,11 @@ module _ (t u : Table) (g : AgreeBelow t u) where
 
   pub batch-below : (m ids : List ℕ) → batchReply t m ids ≡ batchReply u m ids
   unfolding batchReply openedAt
-  batch-below m ids =
-      let one : (i : ℕ) → lookupReply t m (nth ids i) ≡ lookupReply u m (nth ids i) = λ i. lookup-below m (nth ids i) in
-      ap (settledBatch ids)
-      (batchBy-cong (openedAt t m ids) (openedAt u m ids) (length ids) (t .count) (λ i k b l. opens-below m (nth ids i) k l) _ _ _ _ _ _
-      (λ i b. ap (λ (r : Reply). r .refusal) (one i)) (λ i b. ap (λ (r : Reply). r .value) (one i)) (λ i b. ap (λ (r : Reply). r .opened) (one i))
-      ∙ ap (batchBy _ _ _ (openedAt u m ids) (length ids)) (g .count))
+  batch-below m ids = batch-cong ids (openedAt t m ids) (openedAt u m ids) (t .count) (u .count) (g .count)
+      (λ i k l. opens-below m (nth ids i) k l) _ _ _ _ _ _
+      (λ i.
+      let e = lookup-below m (nth ids i) in
+      (ap (λ (r : Reply). r .refusal) e, ap (λ (r : Reply). r .value) e, ap (λ (r : Reply). r .opened) e))
 
 module _ (t u : Table) (a : Alike t u) where
   pub addServer-below : (m : List ℕ) (weight : ℕ)

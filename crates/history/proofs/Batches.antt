@@ -5,17 +5,16 @@ use mathlib.Core.Path.{_≡_, refl, ap, ap₂, _∙_}
 use mathlib.Core.Bool.{Bool, false, _&&_}
 use mathlib.Core.List.{List, [], _∷_}
 use mathlib.Core.Option.{Option, none, some}
-use lib.ListN.{length}
 use lib.Dec.{leb}
 use Rattle.placement.specs.Below.{nth}
 use Rattle.table.specs.declared.Table.{Table}
 use Rattle.archive.specs.declared.Batch.{Batch}
 use Rattle.archive.specs.Opened.{lowest, opens}
-use Rattle.archive.specs.Calls.{lookupRows, lookupReply}
-use Rattle.archive.specs.Batch.{batchBy, settledBatch, lookupOpens, openedAt, batchReply}
+use Rattle.archive.specs.Calls.{lookupRows}
+use Rattle.archive.specs.Batch.{lookupOpens, openedAt, batchReply}
 use Rattle.archive.proofs.Refusals.{settle-both}
 use Rattle.archive.proofs.Accepted.{in-range}
-use Rattle.archive.proofs.Orders.{batchBy-cong}
+use Rattle.archive.proofs.Orders.{batch-cong}
 use Rattle.history.specs.Call.{lookup, Turn, call, batch, Compared, compared, Answer, one, many}
 use Rattle.history.specs.Machine.{State, next, answers}
 use Rattle.history.specs.Ledger.{Ledger, Standing, standing, lookupRowsL, enter, standsFrom, opensL, openedAtL, batchL, ledgerAnswers}
@@ -40,12 +39,11 @@ module _ {t : Table} {m : List ℕ} {L : Ledger} (A : Agree t m L) where
 
   same-batch : (ids : List ℕ) → batchReply t m ids ≡ batchL L ids
   unfolding batchReply batchL compared openedAt openedAtL
-  same-batch ids =
-      let one : (i : ℕ) → compared (lookupReply t m (nth ids i)) ≡ enter L (lookup (nth ids i)) .reply = λ i. lookup-step A (nth ids i) .alike in
-      ap (settledBatch ids)
-      (batchBy-cong (openedAt t m ids) (openedAtL L ids) (length ids) (t .count) (λ i k b l. same-opens (nth ids i) k l) _ _ _ _ _ _
-      (λ i b. ap (λ (c : Compared). c .refusal) (one i)) (λ i b. ap (λ (c : Compared). c .value) (one i)) (λ i b. ap (λ (c : Compared). c .opened) (one i))
-      ∙ ap (batchBy _ _ _ (openedAtL L ids) (length ids)) (A .count))
+  same-batch ids = batch-cong ids (openedAt t m ids) (openedAtL L ids) (t .count) (L .servers) (A .count)
+      (λ i k l. same-opens (nth ids i) k l) _ _ _ _ _ _
+      (λ i.
+      let e = lookup-step A (nth ids i) .alike in
+      (ap (λ (c : Compared). c .refusal) e, ap (λ (c : Compared). c .value) e, ap (λ (c : Compared). c .opened) e))
 
 -- every list of calls and batches
 pub turns-alike : (turns : List Turn) (S : State) (L : Ledger) → Agrees S L → answers S turns ≡ ledgerAnswers L turns
