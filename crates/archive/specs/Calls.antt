@@ -86,9 +86,13 @@ writeRows t m id value =
     ∷ 7 when not (blankRun m (entryAt (t .capacity) k (usedOf t k)) 3)
     ∷ []
 
--- the marks of the earlier live entries on readable servers at or above the write server
+-- the marks of an id's live entries on the readable servers from this one up
+abbrev pub marksFrom : Table → List ℕ → ℕ → ℕ → List ℕ
+marksFrom t m id from = marksOver (t .capacity) (usedOf t) m id (λ k. leb from k && reads t id k) (t .count)
+
+-- a write's: those of the earlier live entries at or above the write server
 unfoldable pub writeMarks : Table → List ℕ → ℕ → List ℕ
-writeMarks t m id = marksOver (t .capacity) (usedOf t) m id (λ k. leb (target t id) k && reads t id k) (t .count)
+writeMarks t m id = marksFrom t m id (target t id)
 
 -- the value word, the id word, then the invalidations
 unfoldable pub writeBurns : Table → List ℕ → ℕ → ℕ → List Burn

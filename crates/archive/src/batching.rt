@@ -17,6 +17,7 @@ use crate::numbers;
 use crate::ordering;
 use crate::search;
 use placement::Fraction;
+use table::Shape;
 use table::Table;
 
 // The refusal of an id before any server is opened, by what the tests say of id 0.
@@ -185,12 +186,16 @@ pub fn lookup_batch(table: Table, medium: &[u32], ids: &[u32]) -> Batch
         return refused_batch(2);
     }
     let number = numbers::check_number(checks::ready(
-        table.capacity,
-        table.count,
-        &table.weights,
-        &table.used,
-        &table.numerators,
-        &table.denominators,
+        Shape {
+            capacity: table.capacity,
+            count: table.count,
+        },
+        [
+            &table.weights,
+            &table.used,
+            &table.numerators,
+            &table.denominators,
+        ],
         medium,
         0,
     ));

@@ -7,6 +7,7 @@ ghost use Rattle.archive.specs.Calls.{startRows, addServerRows, reweight
 use crate::Check;
 use crate::Plan;
 use crate::Refusal;
+use table::Shape;
 
 pub fn start(capacity: u32) -> Check
     ensures { λ r. ⌜ checkNumber r ≡ firstOf (startRows capacity) ⌝ }
@@ -21,18 +22,16 @@ pub fn start(capacity: u32) -> Check
 }
 
 pub fn add_server<'a>(
-    capacity: u32,
-    count: usize,
-    weights: &'a [u32; 256],
-    used: &'a [u32; 256],
-    numerators: &'a [u32; 256],
-    denominators: &'a [u32; 256],
-    medium: &'a [u32],
+    shape: Shape,
+    columns: [&'a [u32; 256]; 4],
+    medium: &[u32],
     weight: u32,
 ) -> Check
-    ensures { λ r. ⌜ checkNumber r ≡ firstOf (addServerRows (tableOf capacity count (now (weights .entry)) (now (used .entry)) (now (numerators .entry)) (now (denominators .entry))) (now (medium .entry)) weight) ⌝ }
+    ensures { λ r. ⌜ checkNumber r ≡ firstOf (addServerRows (tableOf shape (columns .entry)) (now (medium .entry)) weight) ⌝ }
 {
-    if !table::is_sound(capacity, count, weights, used, numerators, denominators) {
+    let capacity = shape.capacity;
+    let count = shape.count;
+    if !table::is_sound(shape, columns) {
         return Check::Refused(Refusal::UnsoundTable);
     }
     if weight > capacity {
@@ -51,19 +50,12 @@ pub fn add_server<'a>(
     Check::Accepted
 }
 
-pub fn reweight<'a>(
-    capacity: u32,
-    count: usize,
-    weights: &'a [u32; 256],
-    used: &'a [u32; 256],
-    numerators: &'a [u32; 256],
-    denominators: &'a [u32; 256],
-    server: usize,
-    weight: u32,
-) -> Check
-    ensures { λ r. ⌜ checkNumber r ≡ firstOf (reweightRows (tableOf capacity count (now (weights .entry)) (now (used .entry)) (now (numerators .entry)) (now (denominators .entry))) server weight) ⌝ }
+pub fn reweight<'a>(shape: Shape, columns: [&'a [u32; 256]; 4], server: usize, weight: u32) -> Check
+    ensures { λ r. ⌜ checkNumber r ≡ firstOf (reweightRows (tableOf shape (columns .entry)) server weight) ⌝ }
 {
-    if !table::is_sound(capacity, count, weights, used, numerators, denominators) {
+    let capacity = shape.capacity;
+    let count = shape.count;
+    if !table::is_sound(shape, columns) {
         return Check::Refused(Refusal::UnsoundTable);
     }
     if weight > capacity {
@@ -72,6 +64,7 @@ pub fn reweight<'a>(
     if count <= server {
         return Check::Refused(Refusal::NoSuchServer);
     }
+    let used = columns[1];
     if weight > capacity - used[server] {
         return Check::Refused(Refusal::ExceedsFree);
     }
@@ -79,19 +72,12 @@ pub fn reweight<'a>(
 }
 
 // The tests that delete and lookup share: the table, the range of the id, a server, and enough words.
-pub fn ready<'a>(
-    capacity: u32,
-    count: usize,
-    weights: &'a [u32; 256],
-    used: &'a [u32; 256],
-    numerators: &'a [u32; 256],
-    denominators: &'a [u32; 256],
-    medium: &'a [u32],
-    id: u32,
-) -> Check
-    ensures { λ r. ⌜ checkNumber r ≡ firstOf (lookupRows (tableOf capacity count (now (weights .entry)) (now (used .entry)) (now (numerators .entry)) (now (denominators .entry))) (now (medium .entry)) id) ⌝ }
+pub fn ready<'a>(shape: Shape, columns: [&'a [u32; 256]; 4], medium: &[u32], id: u32) -> Check
+    ensures { λ r. ⌜ checkNumber r ≡ firstOf (lookupRows (tableOf shape (columns .entry)) (now (medium .entry)) id) ⌝ }
 {
-    if !table::is_sound(capacity, count, weights, used, numerators, denominators) {
+    let capacity = shape.capacity;
+    let count = shape.count;
+    if !table::is_sound(shape, columns) {
         return Check::Refused(Refusal::UnsoundTable);
     }
     if medium::CONTENT_RANGE <= id {
@@ -108,20 +94,18 @@ pub fn ready<'a>(
 
 // The tests before a write, which pick its server.
 pub fn write<'a>(
-    capacity: u32,
-    count: usize,
-    weights: &'a [u32; 256],
-    used: &'a [u32; 256],
-    numerators: &'a [u32; 256],
-    denominators: &'a [u32; 256],
-    medium: &'a [u32],
+    shape: Shape,
+    columns: [&'a [u32; 256]; 4],
+    medium: &[u32],
     id: u32,
     value: u32,
 ) -> Plan
-    ensures number { λ r. ⌜ planNumber r ≡ firstOf (writeRows (tableOf capacity count (now (weights .entry)) (now (used .entry)) (now (numerators .entry)) (now (denominators .entry))) (now (medium .entry)) id value) ⌝ }
-    ensures server { λ r. ⌜ planServer r ≡ settle (writeRows (tableOf capacity count (now (weights .entry)) (now (used .entry)) (now (numerators .entry)) (now (denominators .entry))) (now (medium .entry)) id value) (target (tableOf capacity count (now (weights .entry)) (now (used .entry)) (now (numerators .entry)) (now (denominators .entry))) id) 0 ⌝ }
+    ensures number { λ r. ⌜ planNumber r ≡ firstOf (writeRows (tableOf shape (columns .entry)) (now (medium .entry)) id value) ⌝ }
+    ensures server { λ r. ⌜ planServer r ≡ settle (writeRows (tableOf shape (columns .entry)) (now (medium .entry)) id value) (target (tableOf shape (columns .entry)) id) 0 ⌝ }
 {
-    if !table::is_sound(capacity, count, weights, used, numerators, denominators) {
+    let capacity = shape.capacity;
+    let count = shape.count;
+    if !table::is_sound(shape, columns) {
         return Plan::Refused(Refusal::UnsoundTable);
     }
     if medium::CONTENT_RANGE <= id {
@@ -137,6 +121,8 @@ pub fn write<'a>(
     if medium.len() < medium::server_at(entries, count) {
         return Plan::Refused(Refusal::ShortMedium);
     }
+    let weights = columns[0];
+    let used = columns[1];
     let server = placement::write_server(weights, count, id);
     let entry = used[server];
     if entry == capacity {

@@ -1,17 +1,14 @@
 // The calls that burn words: write and delete.
 ghost use mathlib.Core.Path.{_≡_};
-ghost use mathlib.Core.Bool.{_&&_};
 ghost use Prim.Native.Nat.{_<_, _+_};
 ghost use lib.ListN.{length, set};
-ghost use lib.Dec.{leb};
 ghost use Rattle.placement.specs.Below.{nth};
-ghost use Rattle.placement.specs.Rule.{readable};
 ghost use Rattle.medium.specs.Word.{contentRange, idWord, valueWord};
 ghost use Rattle.medium.specs.Entry.{AllInside};
-ghost use Rattle.medium.specs.Burn.{burnAll, marksOver, invalidations};
-ghost use Rattle.table.specs.Sound.{tableOf};
+ghost use Rattle.medium.specs.Burn.{burnAll, invalidations};
+ghost use Rattle.table.specs.Sound.{tableOf, column};
 ghost use Rattle.archive.specs.Reply.{replyOfWrite, replyOfDelete};
-ghost use Rattle.archive.specs.Calls.{writeReply, writeTable, writeMedium, deleteReply, deleteMedium};
+ghost use Rattle.archive.specs.Calls.{marksFrom, writeReply, writeTable, writeMedium, deleteReply, deleteMedium};
 use crate::Check;
 use crate::DeleteAnswer;
 use crate::Plan;
@@ -20,26 +17,29 @@ use crate::WriteAnswer;
 use crate::Written;
 use crate::checks;
 use placement::Fraction;
+use table::Shape;
 use table::Table;
 
 // Burns a mark of this content on each live entry of an id on the readable servers from the highest down to `from`, and
 // answers how many it burned.
 pub fn invalidate<'a>(
     medium: &mut [u32],
-    capacity: u32,
-    count: usize,
-    used: &'a [u32; 256],
-    numerators: &'a [u32; 256],
-    denominators: &'a [u32; 256],
+    shape: Shape,
+    columns: [&'a [u32; 256]; 4],
     id: u32,
     from: usize,
     content: u32,
 ) -> usize
-    requires { ⌜ AllInside capacity count (nth (now used)) (now medium) ⌝ }
+    requires { ⌜ AllInside (shape .capacity) (shape .count) (nth (column columns 1)) (now medium) ⌝ }
     requires { ⌜ content < 1073741824 ⌝ }
-    ensures count { λ r. ⌜ r ≡ length (marksOver capacity (nth (now (used .entry))) (now (medium .entry)) id (λ k. leb from k && readable (λ i. record { num = nth (now (numerators .entry)) i; den = nth (now (denominators .entry)) i }) id k) count) ⌝ }
-    ensures words { λ _. ⌜ now (medium .exit) ≡ burnAll (now (medium .entry)) (invalidations content (marksOver capacity (nth (now (used .entry))) (now (medium .entry)) id (λ k. leb from k && readable (λ i. record { num = nth (now (numerators .entry)) i; den = nth (now (denominators .entry)) i }) id k) count)) ⌝ }
+    ensures count { λ r. ⌜ r ≡ length (marksFrom (tableOf shape (columns .entry)) (now (medium .entry)) id from) ⌝ }
+    ensures words { λ _. ⌜ now (medium .exit) ≡ burnAll (now (medium .entry)) (invalidations content (marksFrom (tableOf shape (columns .entry)) (now (medium .entry)) id from)) ⌝ }
 {
+    let capacity = shape.capacity;
+    let count = shape.count;
+    let used = columns[1];
+    let numerators = columns[2];
+    let denominators = columns[3];
     let entries = capacity as usize;
     let mut n: usize = 0;
     let mut k = count;
@@ -70,47 +70,25 @@ fn enter(medium: &mut [u32], at: usize, id: u32, value: u32)
 // live entry of the id on readable servers at or above it is invalidated. The caller counts the entry as used on the server
 // that is answered.
 pub fn write_in<'a>(
-    capacity: u32,
-    count: usize,
-    weights: &'a [u32; 256],
-    used: &'a [u32; 256],
-    numerators: &'a [u32; 256],
-    denominators: &'a [u32; 256],
+    shape: Shape,
+    columns: [&'a [u32; 256]; 4],
     medium: &mut [u32],
     id: u32,
     value: u32,
 ) -> WriteAnswer
-    ensures reply { λ r. ⌜ replyOfWrite r ≡ writeReply (tableOf capacity count (now (weights .entry)) (now (used .entry)) (now (numerators .entry)) (now (denominators .entry))) (now (medium .entry)) id value ⌝ }
-    ensures medium { λ _. ⌜ now (medium .exit) ≡ writeMedium (tableOf capacity count (now (weights .entry)) (now (used .entry)) (now (numerators .entry)) (now (denominators .entry))) (now (medium .entry)) id value ⌝ }
+    ensures reply { λ r. ⌜ replyOfWrite r ≡ writeReply (tableOf shape (columns .entry)) (now (medium .entry)) id value ⌝ }
+    ensures medium { λ _. ⌜ now (medium .exit) ≡ writeMedium (tableOf shape (columns .entry)) (now (medium .entry)) id value ⌝ }
 {
-    let plan = checks::write(
-        capacity,
-        count,
-        weights,
-        used,
-        numerators,
-        denominators,
-        medium,
-        id,
-        value,
-    );
+    let capacity = shape.capacity;
+    let plan = checks::write(shape, columns, medium, id, value);
     match plan {
         Plan::Refused(refusal) => WriteAnswer::Refused(refusal),
         Plan::To(server) => {
+            let used = columns[1];
             let entry = used[server] as usize;
             let at = medium::entry_at(capacity as usize, server, entry);
             enter(medium, at, id, value);
-            let n = invalidate(
-                medium,
-                capacity,
-                count,
-                used,
-                numerators,
-                denominators,
-                id,
-                server,
-                medium::REPLACED,
-            );
+            let n = invalidate(medium, shape, columns, id, server, medium::REPLACED);
             WriteAnswer::Written(server, n)
         }
     }
@@ -123,12 +101,16 @@ pub fn write(table: Table, medium: &mut [u32], id: u32, value: u32) -> Written
     ensures medium { λ _. ⌜ now (medium .exit) ≡ writeMedium table (now (medium .entry)) id value ⌝ }
 {
     let answer = write_in(
-        table.capacity,
-        table.count,
-        &table.weights,
-        &table.used,
-        &table.numerators,
-        &table.denominators,
+        Shape {
+            capacity: table.capacity,
+            count: table.count,
+        },
+        [
+            &table.weights,
+            &table.used,
+            &table.numerators,
+            &table.denominators,
+        ],
         medium,
         id,
         value,
@@ -147,42 +129,19 @@ pub fn write(table: Table, medium: &mut [u32], id: u32, value: u32) -> Written
 
 // Delete on a table whose arrays are borrowed: every live entry of the id on every readable server is invalidated.
 pub fn delete_in<'a>(
-    capacity: u32,
-    count: usize,
-    weights: &'a [u32; 256],
-    used: &'a [u32; 256],
-    numerators: &'a [u32; 256],
-    denominators: &'a [u32; 256],
+    shape: Shape,
+    columns: [&'a [u32; 256]; 4],
     medium: &mut [u32],
     id: u32,
 ) -> DeleteAnswer
-    ensures reply { λ r. ⌜ replyOfDelete r ≡ deleteReply (tableOf capacity count (now (weights .entry)) (now (used .entry)) (now (numerators .entry)) (now (denominators .entry))) (now (medium .entry)) id ⌝ }
-    ensures medium { λ _. ⌜ now (medium .exit) ≡ deleteMedium (tableOf capacity count (now (weights .entry)) (now (used .entry)) (now (numerators .entry)) (now (denominators .entry))) (now (medium .entry)) id ⌝ }
+    ensures reply { λ r. ⌜ replyOfDelete r ≡ deleteReply (tableOf shape (columns .entry)) (now (medium .entry)) id ⌝ }
+    ensures medium { λ _. ⌜ now (medium .exit) ≡ deleteMedium (tableOf shape (columns .entry)) (now (medium .entry)) id ⌝ }
 {
-    let check = checks::ready(
-        capacity,
-        count,
-        weights,
-        used,
-        numerators,
-        denominators,
-        medium,
-        id,
-    );
+    let check = checks::ready(shape, columns, medium, id);
     if let Check::Refused(refusal) = check {
         return DeleteAnswer::Refused(refusal);
     }
-    let n = invalidate(
-        medium,
-        capacity,
-        count,
-        used,
-        numerators,
-        denominators,
-        id,
-        0,
-        medium::DELETED,
-    );
+    let n = invalidate(medium, shape, columns, id, 0, medium::DELETED);
     if n == 0 {
         return DeleteAnswer::Refused(Refusal::NotFound);
     }
@@ -195,12 +154,16 @@ pub fn delete(table: Table, medium: &mut [u32], id: u32) -> DeleteAnswer
     ensures medium { λ _. ⌜ now (medium .exit) ≡ deleteMedium table (now (medium .entry)) id ⌝ }
 {
     delete_in(
-        table.capacity,
-        table.count,
-        &table.weights,
-        &table.used,
-        &table.numerators,
-        &table.denominators,
+        Shape {
+            capacity: table.capacity,
+            count: table.count,
+        },
+        [
+            &table.weights,
+            &table.used,
+            &table.numerators,
+            &table.denominators,
+        ],
         medium,
         id,
     )

@@ -1,11 +1,10 @@
 // Lookup: a search over the servers from the highest down, and on each over its entries downward.
 ghost use mathlib.Core.Path.{_≡_};
-ghost use mathlib.Core.List.{List};
 ghost use mathlib.Core.Option.{some};
-ghost use Prim.Native.Nat.{ℕ, _<_};
+ghost use Prim.Native.Nat.{_<_};
 ghost use Rattle.placement.specs.Below.{nth};
 ghost use Rattle.medium.specs.Entry.{Inside, AllInside};
-ghost use Rattle.table.specs.Sound.{tableOf};
+ghost use Rattle.table.specs.Sound.{tableOf, column};
 ghost use Rattle.archive.specs.Search.{searchFor, foundBy};
 ghost use Rattle.archive.specs.Reply.{replyOfLookup};
 ghost use Rattle.archive.specs.Calls.{metReply, lookupReply};
@@ -15,21 +14,19 @@ use crate::LookupAnswer;
 use crate::Refusal;
 use crate::checks;
 use placement::Fraction;
+use table::Shape;
 use table::Table;
 
-// The entry that a lookup meets, and how many servers it opens. The weights have no part in it.
-pub fn find<'a>(
-    capacity: u32,
-    count: usize,
-    used: &'a [u32; 256],
-    numerators: &'a [u32; 256],
-    denominators: &'a [u32; 256],
-    medium: &'a [u32],
-    id: u32,
-) -> Found
-    requires { ⌜ AllInside capacity count (nth (now used)) (now medium) ⌝ }
-    ensures { λ r. ⌜ ((weights : List ℕ) → r ≡ foundBy (searchFor (tableOf capacity count weights (now (used .entry)) (now (numerators .entry)) (now (denominators .entry))) (now (medium .entry)) id)) ⌝ }
+// The entry that a lookup meets, and how many servers it opens.
+pub fn find<'a>(shape: Shape, columns: [&'a [u32; 256]; 4], medium: &[u32], id: u32) -> Found
+    requires { ⌜ AllInside (shape .capacity) (shape .count) (nth (column columns 1)) (now medium) ⌝ }
+    ensures { λ r. ⌜ r ≡ foundBy (searchFor (tableOf shape (columns .entry)) (now (medium .entry)) id) ⌝ }
 {
+    let capacity = shape.capacity;
+    let count = shape.count;
+    let used = columns[1];
+    let numerators = columns[2];
+    let denominators = columns[3];
     let entries = capacity as usize;
     let mut met = false;
     let mut opened: usize = 0;
@@ -82,31 +79,19 @@ pub fn met(
 
 // Lookup on a table whose arrays are borrowed: the value of an id, or why there is none, and how many servers were opened.
 pub fn lookup_in<'a>(
-    capacity: u32,
-    count: usize,
-    weights: &'a [u32; 256],
-    used: &'a [u32; 256],
-    numerators: &'a [u32; 256],
-    denominators: &'a [u32; 256],
-    medium: &'a [u32],
+    shape: Shape,
+    columns: [&'a [u32; 256]; 4],
+    medium: &[u32],
     id: u32,
 ) -> LookupAnswer
-    ensures { λ r. ⌜ replyOfLookup r ≡ lookupReply (tableOf capacity count (now (weights .entry)) (now (used .entry)) (now (numerators .entry)) (now (denominators .entry))) (now (medium .entry)) id ⌝ }
+    ensures { λ r. ⌜ replyOfLookup r ≡ lookupReply (tableOf shape (columns .entry)) (now (medium .entry)) id ⌝ }
 {
-    let check = checks::ready(
-        capacity,
-        count,
-        weights,
-        used,
-        numerators,
-        denominators,
-        medium,
-        id,
-    );
+    let capacity = shape.capacity;
+    let check = checks::ready(shape, columns, medium, id);
     if let Check::Refused(refusal) = check {
         return LookupAnswer::Refused(refusal, 0);
     }
-    let found = find(capacity, count, used, numerators, denominators, medium, id);
+    let found = find(shape, columns, medium, id);
     match found {
         Found::Nowhere(opened) => LookupAnswer::Refused(Refusal::NotFound, opened),
         Found::At(server, entry, opened) => met(capacity, medium, server, entry, opened),
@@ -118,12 +103,16 @@ pub fn lookup(table: Table, medium: &[u32], id: u32) -> LookupAnswer
     ensures { λ r. ⌜ replyOfLookup r ≡ lookupReply table (now (medium .entry)) id ⌝ }
 {
     lookup_in(
-        table.capacity,
-        table.count,
-        &table.weights,
-        &table.used,
-        &table.numerators,
-        &table.denominators,
+        Shape {
+            capacity: table.capacity,
+            count: table.count,
+        },
+        [
+            &table.weights,
+            &table.used,
+            &table.numerators,
+            &table.denominators,
+        ],
         medium,
         id,
     )

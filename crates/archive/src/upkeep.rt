@@ -7,6 +7,7 @@ use crate::Placed;
 use crate::ServerAnswer;
 use crate::Started;
 use crate::checks;
+use table::Shape;
 use table::Table;
 
 // A table of no server; a table of all zeros where the capacity is refused.
@@ -39,12 +40,16 @@ pub fn add_server(table: Table, medium: &[u32], weight: u32) -> Placed
     ensures table { λ r. ⌜ r .table ≡ addServerTable table (now (medium .entry)) weight ⌝ }
 {
     let check = checks::add_server(
-        table.capacity,
-        table.count,
-        &table.weights,
-        &table.used,
-        &table.numerators,
-        &table.denominators,
+        Shape {
+            capacity: table.capacity,
+            count: table.count,
+        },
+        [
+            &table.weights,
+            &table.used,
+            &table.numerators,
+            &table.denominators,
+        ],
         medium,
         weight,
     );
@@ -70,12 +75,16 @@ pub fn reweight(table: Table, server: usize, weight: u32) -> Placed
     ensures table { λ r. ⌜ r .table ≡ reweightTable table server weight ⌝ }
 {
     let check = checks::reweight(
-        table.capacity,
-        table.count,
-        &table.weights,
-        &table.used,
-        &table.numerators,
-        &table.denominators,
+        Shape {
+            capacity: table.capacity,
+            count: table.count,
+        },
+        [
+            &table.weights,
+            &table.used,
+            &table.numerators,
+            &table.denominators,
+        ],
         server,
         weight,
     );

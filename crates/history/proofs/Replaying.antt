@@ -16,7 +16,7 @@ use Rattle.placement.proofs.Tests.{byBool}
 use Rattle.placement.proofs.Below.{replicate-all}
 use Rattle.medium.specs.Word.{blank}
 use Rattle.table.specs.declared.Table.{Table}
-use Rattle.table.specs.Sound.{tableOf, usedOf}
+use Rattle.table.specs.Sound.{usedOf}
 use Rattle.table.specs.Upkeep.{withEntry}
 use Rattle.table.proofs.Soundness.{sound-facts}
 use Rattle.archive.specs.Refusal.{firstOf}
@@ -53,7 +53,14 @@ no-call number first second a b c d e = rw (ne-eqb number 1 a, ne-eqb number 2 b
 
 -- a table with other used entries
 abbrev pub withUsed : Table → List ℕ → Table
-withUsed t used = tableOf (t .capacity) (t .count) (t .weights) used (t .numerators) (t .denominators)
+withUsed t used = record {
+  capacity = t .capacity;
+  count = t .count;
+  weights = t .weights;
+  used = used;
+  numerators = t .numerators;
+  denominators = t .denominators;
+}
 
 module _ (S : State) (number first second : ℕ) where
   -- the table after call 3, and after one from 4 on or none

@@ -14,6 +14,7 @@ ghost use Rattle.history.specs.Lent.{tableLength, tableFrom, withTable, 
 use archive::Check;
 use archive::Placed;
 use archive::Reply;
+use table::Shape;
 use table::Table;
 
 // A reply, and the table after the call.
@@ -49,53 +50,21 @@ fn no_call() -> Reply
 
 // Runs an encoded call but 1 and 2 on a table whose arrays are borrowed. `count_entry` then makes the table after it.
 fn run_in<'a>(
-    capacity: u32,
-    count: usize,
-    weights: &'a [u32; 256],
-    used: &'a [u32; 256],
-    numerators: &'a [u32; 256],
-    denominators: &'a [u32; 256],
+    shape: Shape,
+    columns: [&'a [u32; 256]; 4],
     medium: &mut [u32],
     number: u32,
     first: u32,
     second: u32,
 ) -> Reply
     requires { ⌜ (number ≢ 1) × (number ≢ 2) ⌝ }
-    ensures reply { λ r. ⌜ r ≡ replyTo (record { table = tableOf capacity count (now (weights .entry)) (now (used .entry)) (now (numerators .entry)) (now (denominators .entry)); medium = now (medium .entry) }) (callOf number first second) ⌝ }
-    ensures medium { λ _. ⌜ now (medium .exit) ≡ nextBy (record { table = tableOf capacity count (now (weights .entry)) (now (used .entry)) (now (numerators .entry)) (now (denominators .entry)); medium = now (medium .entry) }) (callOf number first second) .medium ⌝ }
+    ensures reply { λ r. ⌜ r ≡ replyTo (record { table = tableOf shape (columns .entry); medium = now (medium .entry) }) (callOf number first second) ⌝ }
+    ensures medium { λ _. ⌜ now (medium .exit) ≡ nextBy (record { table = tableOf shape (columns .entry); medium = now (medium .entry) }) (callOf number first second) .medium ⌝ }
 {
     match number {
-        3 => archive::write_reply(archive::write_in(
-            capacity,
-            count,
-            weights,
-            used,
-            numerators,
-            denominators,
-            medium,
-            first,
-            second,
-        )),
-        4 => archive::delete_reply(archive::delete_in(
-            capacity,
-            count,
-            weights,
-            used,
-            numerators,
-            denominators,
-            medium,
-            first,
-        )),
-        5 => archive::lookup_reply(archive::lookup_in(
-            capacity,
-            count,
-            weights,
-            used,
-            numerators,
-            denominators,
-            medium,
-            first,
-        )),
+        3 => archive::write_reply(archive::write_in(shape, columns, medium, first, second)),
+        4 => archive::delete_reply(archive::delete_in(shape, columns, medium, first)),
+        5 => archive::lookup_reply(archive::lookup_in(shape, columns, medium, first)),
         _ => no_call(),
     }
 }
@@ -141,12 +110,16 @@ pub fn run_call(table: Table, medium: &mut [u32], number: u32, first: u32, secon
     }
     let mut next = table;
     let reply = run_in(
-        next.capacity,
-        next.count,
-        &next.weights,
-        &next.used,
-        &next.numerators,
-        &next.denominators,
+        Shape {
+            capacity: next.capacity,
+            count: next.count,
+        },
+        [
+            &next.weights,
+            &next.used,
+            &next.numerators,
+            &next.denominators,
+        ],
         medium,
         number,
         first,
@@ -202,12 +175,16 @@ fn run_calls(
             ran.reply
         } else {
             let lent = run_in(
-                next.capacity,
-                next.count,
-                &next.weights,
-                &next.used,
-                &next.numerators,
-                &next.denominators,
+                Shape {
+                    capacity: next.capacity,
+                    count: next.count,
+                },
+                [
+                    &next.weights,
+                    &next.used,
+                    &next.numerators,
+                    &next.denominators,
+                ],
                 medium,
                 number,
                 first,

@@ -1,23 +1,30 @@
 -- When a table is sound (document 01, "The table"), for arbitrary bits. Only positions below the count are read.
 use Prim.Native.Nat.{ℕ}
 use mathlib.Core.Bool.{Bool, _&&_}
-use mathlib.Core.List.{List}
+use mathlib.Core.List.{List, []}
+use lib.ListN.{getD}
+use denote.Ref.{RefT}
 use lib.Dec.{leb}
 use Rattle.placement.specs.declared.Fraction.{Fraction}
 use Rattle.placement.specs.Below.{nth, allBelow}
 use Rattle.placement.specs.Fraction.{atLeast}
 use Rattle.placement.specs.Rule.{writeP}
 use Rattle.table.specs.declared.Table.{Table}
+use Rattle.table.specs.declared.Shape.{Shape}
 
--- a table by its parts, for code that borrows the arrays
-abbrev pub tableOf : ℕ → ℕ → List ℕ → List ℕ → List ℕ → List ℕ → Table
-tableOf capacity count weights used numerators denominators = record {
-  capacity = capacity;
-  count = count;
-  weights = weights;
-  used = used;
-  numerators = numerators;
-  denominators = denominators;
+-- the arrays of a table that are lent together, in the order of its fields: what stands in array i
+abbrev pub column : List (RefT (List ℕ)) → ℕ → List ℕ
+column columns i = getD columns i (record { ptr = (0, 0); name = 0; now = [] }) .now
+
+-- the table that they belong to
+abbrev pub tableOf : Shape → List (RefT (List ℕ)) → Table
+tableOf shape columns = record {
+  capacity = shape .capacity;
+  count = shape .count;
+  weights = column columns 0;
+  used = column columns 1;
+  numerators = column columns 2;
+  denominators = column columns 3;
 }
 
 -- weight, entries used and ReadP of server k

@@ -2,7 +2,7 @@
 ghost use mathlib.Core.Path.{_≡_};
 ghost use mathlib.Core.Bool.{true};
 ghost use Prim.Native.Nat.{_<_, _≤_};
-ghost use Rattle.table.specs.Sound.{readSound, sound};
+ghost use Rattle.table.specs.Sound.{tableOf, readSound, sound};
 ghost use Rattle.table.specs.Upkeep.{empty, withServer, withWeight, withEntry};
 use placement::Fraction;
 
@@ -15,6 +15,12 @@ pub struct Table {
     pub used: [u32; 256],
     pub numerators: [u32; 256],
     pub denominators: [u32; 256],
+}
+
+// The numbers of a table that are not one for each server.
+pub struct Shape {
+    pub capacity: u32,
+    pub count: usize,
 }
 
 // A table of no server.
@@ -48,16 +54,15 @@ pub fn read_sound(read: Fraction, write: Fraction) -> bool
 }
 
 // Whether a table of any bits is sound. It borrows the arrays, so that a caller copies none.
-pub fn is_sound<'a>(
-    capacity: u32,
-    count: usize,
-    weights: &'a [u32; 256],
-    used: &'a [u32; 256],
-    numerators: &'a [u32; 256],
-    denominators: &'a [u32; 256],
-) -> bool
-    ensures { λ r. ⌜ r ≡ sound (record { capacity = capacity; count = count; weights = now (weights .entry); used = now (used .entry); numerators = now (numerators .entry); denominators = now (denominators .entry) }) ⌝ }
+pub fn is_sound<'a>(shape: Shape, columns: [&'a [u32; 256]; 4]) -> bool
+    ensures { λ r. ⌜ r ≡ sound (tableOf shape (columns .entry)) ⌝ }
 {
+    let capacity = shape.capacity;
+    let count = shape.count;
+    let weights = columns[0];
+    let used = columns[1];
+    let numerators = columns[2];
+    let denominators = columns[3];
     if capacity < 1 {
         return false;
     }

@@ -95,7 +95,7 @@ called-here c =
     (c .if1 .came)
 
 kept-here : (c : tie.Joined1 Inv-loop μ-loop) → length (c .if1 .medium) ≡ length (L (c .before) .loop .medium)
-kept-here c = ⊎-elim (λ w. ap length (w .7) ∙ w .2 .kept .1 .0) (λ w. ap length (w .12) ∙ w .7 .kept .1 .1 .1 .1 .1 .1 .0) (c .if1 .came)
+kept-here c = ⊎-elim (λ w. ap length (w .7) ∙ w .2 .kept .1 .0) (λ w. ap length (w .12) ∙ w .7 .kept .1 .1 .0) (c .if1 .came)
 
 store-requires : tie.Need-store-requires Inv-loop μ-loop
 store-requires c κs = let j = c .before in (search needs, called-small _ _ (j .if1 .reply) (called-here j .0))

@@ -2,30 +2,18 @@
 use Prim.Native.Nat.{ℕ, _+_, _*_, _-_, _≤_}
 use mathlib.Core.Path.{_≡_, refl, sym, _∙_}
 use mathlib.Core.Bool.{Bool, true, false}
-use mathlib.Core.List.{List}
 use native.Mathlib.Omega.{arith}
 use borrow.Author.Needs.{needs}
 use borrow.Author.Tests.{le-leb, lt-leb, not-true, not-false}
 use Rattle.placement.specs.declared.Fraction.{Fraction}
-use Rattle.placement.specs.Below.{nth, allBelow, total}
+use Rattle.placement.specs.Below.{allBelow, total}
 use Rattle.placement.specs.Rule.{shareOf, writeP}
 use Rattle.placement.proofs.Below.{total-more, allBelow-more}
 use Rattle.table.specs.declared.Table.{Table}
-use Rattle.table.specs.Sound.{weightOf, usedOf, readP, readSound, serverSound, sound}
+use Rattle.table.specs.Sound.{tableOf, weightOf, usedOf, readP, readSound, serverSound, sound}
 use Rattle.table.proofs.Soundness.{tested-sound, server-unsound}
 use Rattle.table.proofs.is_sound.Statement.{statement}
 use Rattle.table.proofs.is_sound.Tie as tie
-
--- the table of the arguments
-abbrev whole : ℕ → ℕ → List ℕ → List ℕ → List ℕ → List ℕ → Table
-whole capacity count weights used numerators denominators = record {
-  capacity = capacity;
-  count = count;
-  weights = weights;
-  used = used;
-  numerators = numerators;
-  denominators = denominators;
-}
 
 -- a server by the tests that the code makes, WriteP being worked out from the sum so far
 tested : (t : Table) (k sum : ℕ) (write : Fraction) (b : Bool) → weightOf t k ≤ t .capacity → usedOf t k ≤ t .capacity → sum ≡ total (weightOf t) k
@@ -34,20 +22,32 @@ unfolding serverSound writeP total
 tested t k sum write b light fits s w r = rw (le-leb _ _ light, le-leb _ _ fits, ← s, ← w) (sym r)
 
 abbrev Inv-loop : tie.InvT-loop
-Inv-loop capacity count weights used numerators denominators sum₀ i₀ sum i =
+Inv-loop t2 capacity count weights used numerators denominators sum₀ i₀ sum i =
     (i ≤ count) × (count ≤ 256) × (capacity ≤ 65536)
-    × (allBelow (serverSound (whole capacity count weights used numerators denominators)) i ≡ true)
-    × (sum ≡ total (nth weights) i) × (sum ≤ 65536 * i)
+    × (allBelow (serverSound (tableOf (record { capacity = capacity; count = count }) t2)) i ≡ true)
+    × (sum ≡ total (weightOf (tableOf (record { capacity = capacity; count = count }) t2)) i) × (sum ≤ 65536 * i)
 
 abbrev μ-loop : tie.MeasureT-loop
-μ-loop capacity count weights used numerators denominators sum₀ i₀ sum i = count - i
+μ-loop t2 capacity count weights used numerators denominators sum₀ i₀ sum i = count - i
 
 abbrev T : tie.Start Inv-loop μ-loop → Table
-T s = whole (s .args .capacity) (s .args .count) (s .args .weights .now) (s .args .used .now) (s .args .numerators .now) (s .args .denominators .now)
+T s = tableOf (s .args .shape) (s .args .t2)
 
 -- the table at the loop's head
 abbrev TL : tie.At-loop Inv-loop μ-loop → Table
 TL l = T (l .before .before .before .before)
+
+array-copy-out-weights : tie.Need-array-copy-out-weights Inv-loop μ-loop
+array-copy-out-weights c = search needs
+
+array-copy-out-used : tie.Need-array-copy-out-used Inv-loop μ-loop
+array-copy-out-used c = search needs
+
+array-copy-out-numerators : tie.Need-array-copy-out-numerators Inv-loop μ-loop
+array-copy-out-numerators c = search needs
+
+array-copy-out-denominators : tie.Need-array-copy-out-denominators Inv-loop μ-loop
+array-copy-out-denominators c = search needs
 
 returns : tie.Need-returns Inv-loop μ-loop
 unfolding sound
@@ -94,17 +94,17 @@ returns-5 c =
 add-sum : tie.Need-add-sum Inv-loop μ-loop
 add-sum c = search needs
 
-mul-t13 : tie.Need-mul-t13 Inv-loop μ-loop
-mul-t13 c = search needs
+mul-t25 : tie.Need-mul-t25 Inv-loop μ-loop
+mul-t25 c = search needs
 
-element-copy-out-t16 : tie.Need-element-copy-out-t16 Inv-loop μ-loop
-element-copy-out-t16 c = search needs
+element-copy-out-t28 : tie.Need-element-copy-out-t28 Inv-loop μ-loop
+element-copy-out-t28 c = search needs
 
-mul-t21 : tie.Need-mul-t21 Inv-loop μ-loop
-mul-t21 c = search needs
+mul-t33 : tie.Need-mul-t33 Inv-loop μ-loop
+mul-t33 c = search needs
 
-element-copy-out-t24 : tie.Need-element-copy-out-t24 Inv-loop μ-loop
-element-copy-out-t24 c = search needs
+element-copy-out-t36 : tie.Need-element-copy-out-t36 Inv-loop μ-loop
+element-copy-out-t36 c = search needs
 
 write-p-requires : tie.Need-write-p-requires Inv-loop μ-loop
 write-p-requires c κs = search needs
@@ -156,6 +156,10 @@ is-sound-spec =
     (tie.spec
     Inv-loop
     μ-loop
+    array-copy-out-weights
+    array-copy-out-used
+    array-copy-out-numerators
+    array-copy-out-denominators
     returns
     returns-2
     returns-3
@@ -167,10 +171,10 @@ is-sound-spec =
     element-copy-out-if5
     returns-5
     add-sum
-    mul-t13
-    element-copy-out-t16
-    mul-t21
-    element-copy-out-t24
+    mul-t25
+    element-copy-out-t28
+    mul-t33
+    element-copy-out-t36
     write-p-requires
     read-sound-requires
     returns-6

@@ -20,7 +20,7 @@ use Rattle.archive.proofs.checks.add_server.Tie as tie
 
 -- the table that is tested
 abbrev T : tie.After-is-sound → Table
-T c = let a = c .before .before .args in tableOf (a .capacity) (a .count) (a .weights .now) (a .used .now) (a .numerators .now) (a .denominators .now)
+T c = let a = c .before .before .args in tableOf (a .shape) (a .columns)
 
 is-sound-requires : tie.Need-is-sound-requires
 is-sound-requires c κs = search needs
@@ -45,6 +45,9 @@ returns-2 c = rw (is-sound (c .before), lt-ltb _ _ (c .if2 .taken))
 returns-3 : tie.Need-returns-3
 unfolding checkNumber numberOf addServerRows firstOf
 returns-3 c = rw (is-sound (c .before .before), le-ltb _ _ (c .before .if2 .left), eq-eqb _ _ (c .if3 .taken))
+
+cast-entries : tie.Need-cast-entries
+cast-entries c = search needs
 
 add-server-at : tie.Need-add-server-at
 add-server-at c = let s = facts (c .before .before) in search needs
@@ -74,7 +77,7 @@ long-here c = omega (arith, end-here (c .before))
 
 is-blank-requires : tie.Need-is-blank-requires
 is-blank-requires c κs = let a = c .before .before .before .before .before .before .before .before .args in
-    omega (arith, long-here (c .before), server-next (a .capacity) (a .count))
+    omega (arith, long-here (c .before), server-next (a .shape .capacity) (a .shape .count))
 
 -- the test of the new server's words
 blank-here : (c : tie.After-is-blank) → blankRun (c .before .before .before .before .before .before .before .before .before .args .medium .now) (serverAt (T (c .before .before .before .before .before .before .before) .capacity) (T (c .before .before .before .before .before .before .before) .count)) (3 * T (c .before .before .before .before .before .before .before) .capacity) ≡ c .is-blank .result
@@ -102,6 +105,7 @@ add-server-spec =
     returns
     returns-2
     returns-3
+    cast-entries
     add-server-at
     server-at-requires
     returns-4

@@ -15,7 +15,7 @@ use Rattle.archive.proofs.checks.ready.Tie as tie
 
 -- the table that is tested
 abbrev T : tie.After-is-sound → Table
-T c = let a = c .before .before .args in tableOf (a .capacity) (a .count) (a .weights .now) (a .used .now) (a .numerators .now) (a .denominators .now)
+T c = let a = c .before .before .args in tableOf (a .shape) (a .columns)
 
 is-sound-requires : tie.Need-is-sound-requires
 is-sound-requires c κs = search needs
@@ -37,6 +37,9 @@ returns-2 c = rw (is-sound (c .before), le-leb _ _ (c .if2 .taken))
 returns-3 : tie.Need-returns-3
 unfolding checkNumber numberOf lookupRows firstOf
 returns-3 c = rw (is-sound (c .before .before), lt-leb _ _ (c .before .if2 .left), eq-eqb _ _ (c .if3 .taken))
+
+cast-server-at : tie.Need-cast-server-at
+cast-server-at c = search needs
 
 server-at-requires : tie.Need-server-at-requires
 server-at-requires c κs = let s = sound-facts (T (c .before .before .before)) (is-sound (c .before .before)) in omega arith
@@ -61,6 +64,7 @@ ready-spec =
     returns
     returns-2
     returns-3
+    cast-server-at
     server-at-requires
     returns-4
     returns-5)

@@ -14,7 +14,7 @@ use Rattle.archive.proofs.checks.reweight.Tie as tie
 
 -- the table that is tested
 abbrev T : tie.After-is-sound → Table
-T c = let a = c .before .args in tableOf (a .capacity) (a .count) (a .weights .now) (a .used .now) (a .numerators .now) (a .denominators .now)
+T c = let a = c .before .args in tableOf (a .shape) (a .t2)
 
 is-sound-requires : tie.Need-is-sound-requires
 is-sound-requires c κs = search needs
@@ -39,6 +39,9 @@ returns-2 c = rw (is-sound (c .before), lt-ltb _ _ (c .if2 .taken))
 returns-3 : tie.Need-returns-3
 unfolding checkNumber numberOf reweightRows firstOf
 returns-3 c = rw (is-sound (c .before .before), le-ltb _ _ (c .before .if2 .left), le-leb _ _ (c .if3 .taken))
+
+array-copy-out-used : tie.Need-array-copy-out-used
+array-copy-out-used c = search needs
 
 mul-if4 : tie.Need-mul-if4
 mul-if4 c = let s = facts (c .before .before) in search needs
@@ -69,6 +72,7 @@ reweight-spec =
     returns
     returns-2
     returns-3
+    array-copy-out-used
     mul-if4
     element-copy-out-if4
     sub-if4

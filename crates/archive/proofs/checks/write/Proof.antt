@@ -24,7 +24,7 @@ use Rattle.archive.proofs.checks.write.Tie as tie
 
 -- the table that is tested, and the rows
 abbrev T : tie.Start → Table
-T s = let a = s .args in tableOf (a .capacity) (a .count) (a .weights .now) (a .used .now) (a .numerators .now) (a .denominators .now)
+T s = let a = s .args in tableOf (a .shape) (a .t2)
 
 abbrev M : tie.Start → List ℕ
 M s = s .args .medium .now
@@ -62,6 +62,9 @@ returns-4 c =
     let d = c .before in
     plan-refused (rows (d .before .before .before .before .before)) NoSuchServer _ (rw (is-sound (d .before .before), lt-leb _ _ (d .before .if2 .left), lt-leb _ _ (d .if3 .left), eq-eqb _ _ (c .if4 .taken)))
 
+cast-entries : tie.Need-cast-entries
+cast-entries c = search needs
+
 server-at-requires : tie.Need-server-at-requires
 server-at-requires c κs = let s = facts (c .before .before .before) in omega arith
 
@@ -71,6 +74,12 @@ returns-5 c =
     let e = c .before .before in
     let d = e .before in
     plan-refused (rows (d .before .before .before .before .before)) ShortMedium _ (rw (is-sound (d .before .before), lt-leb _ _ (d .before .if2 .left), lt-leb _ _ (d .if3 .left), ne-eqb _ _ (e .if4 .left), ← c .before .server-at .ensures, lt-ltb _ _ (c .if5 .taken)))
+
+array-copy-out-weights : tie.Need-array-copy-out-weights
+array-copy-out-weights c = search needs
+
+array-copy-out-used : tie.Need-array-copy-out-used
+array-copy-out-used c = search needs
 
 write-server-requires : tie.Need-write-server-requires
 write-server-requires c κs = sound-bounded (T (c .before .before .before .before .before .before .before .before)) (facts (c .before .before .before .before .before))
@@ -158,8 +167,11 @@ write-spec =
     returns-2
     returns-3
     returns-4
+    cast-entries
     server-at-requires
     returns-5
+    array-copy-out-weights
+    array-copy-out-used
     write-server-requires
     mul-entry
     element-copy-out-entry

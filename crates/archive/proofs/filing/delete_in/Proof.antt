@@ -25,7 +25,7 @@ abbrev S : tie.After-ready → tie.Start
 S c = c .before .before .before
 
 abbrev T : tie.After-ready → Table
-T c = let a = S c .args in tableOf (a .capacity) (a .count) (a .weights .now) (a .used .now) (a .numerators .now) (a .denominators .now)
+T c = let a = S c .args in tableOf (a .shape) (a .columns)
 
 abbrev M : tie.After-ready → List ℕ
 M c = S c .args .medium .now

@@ -1,7 +1,6 @@
 -- `archive::filing::invalidate` meets its contract. The invariant: the servers passed are done, as `Left` says.
 use mathlib.Core.Path.{_≡_, sym, _∙_}
 use mathlib.Core.Bool.{Bool, _&&_}
-use mathlib.Core.List.{List}
 use Prim.Native.Nat.{ℕ, _-_, _≤_}
 use native.Mathlib.Omega.{arith}
 use borrow.Author.Needs.{needs}
@@ -9,20 +8,24 @@ use borrow.Author.Tests.{le-leb, lt-leb}
 use lib.Dec.{leb}
 use Rattle.placement.specs.Below.{nth}
 use Rattle.placement.specs.Rule.{takes, readable}
+use Rattle.table.specs.declared.Table.{Table}
+use Rattle.table.specs.Sound.{tableOf, column, usedOf}
+use Rattle.archive.specs.Search.{reads}
 use Rattle.archive.proofs.Invalidating.{Left, left-inside, left-fits, left-few, left-no, left-yes, left-end}
 use Rattle.archive.proofs.filing.invalidate.Statement.{statement}
 use Rattle.archive.proofs.filing.invalidate.Tie as tie
 
 -- the test of a server
-abbrev passes : List ℕ → List ℕ → ℕ → ℕ → ℕ → Bool
-passes numerators denominators id from k = leb from k && readable (λ i. record { num = nth numerators i; den = nth denominators i }) id k
+abbrev passes : Table → ℕ → ℕ → ℕ → Bool
+passes t id from k = leb from k && reads t id k
 
 abbrev Inv-loop : tie.InvT-loop
-Inv-loop medium₀ capacity count used numerators denominators id from content entries n₀ k₀ medium n k =
-    Left capacity count (nth used) medium₀ id (passes numerators denominators id from) content k medium n
+Inv-loop medium₀ t3 id from content capacity count used numerators denominators entries n₀ k₀ medium n k =
+    let t = tableOf (record { capacity = capacity; count = count }) t3 in
+    Left capacity count (usedOf t) medium₀ id (passes t id from) content k medium n
 
 abbrev μ-loop : tie.MeasureT-loop
-μ-loop medium₀ capacity count used numerators denominators id from content entries n₀ k₀ medium n k = k
+μ-loop medium₀ t3 id from content capacity count used numerators denominators entries n₀ k₀ medium n k = k
 
 -- the start, and the loop's head
 abbrev S : tie.At-loop Inv-loop μ-loop → tie.Start Inv-loop μ-loop
@@ -33,12 +36,24 @@ L c = c .before .before .before .before
 
 -- the server's test, as the code makes it, and its used
 passes-here : (c : tie.After-takes Inv-loop μ-loop)
-    → let a = S (L c) .args in c .takes .result ≡ passes (a .numerators .now) (a .denominators .now) (a .id) (a .from) (L c .loop .k - 1)
+    → let a = S (L c) .args in c .takes .result ≡ passes (tableOf (a .shape) (a .t3)) (a .id) (a .from) (L c .loop .k - 1)
 unfolding readable takes
 passes-here c = let l = L c in rw (le-leb (S l .args .from) (l .loop .k - 1) (omega arith)) (c .takes .ensures)
 
-fits-here : (c : tie.After-takes Inv-loop μ-loop) → let a = S (L c) .args in nth (a .used .now) (L c .loop .k - 1) ≤ a .capacity
+fits-here : (c : tie.After-takes Inv-loop μ-loop) → let a = S (L c) .args in nth (column (a .t3) 1) (L c .loop .k - 1) ≤ a .shape .capacity
 fits-here c = let l = L c in left-fits (l .loop .inv) (S l .pre .0) (omega arith)
+
+array-copy-out-used : tie.Need-array-copy-out-used Inv-loop μ-loop
+array-copy-out-used c = search needs
+
+array-copy-out-numerators : tie.Need-array-copy-out-numerators Inv-loop μ-loop
+array-copy-out-numerators c = search needs
+
+array-copy-out-denominators : tie.Need-array-copy-out-denominators Inv-loop μ-loop
+array-copy-out-denominators c = search needs
+
+cast-entries : tie.Need-cast-entries Inv-loop μ-loop
+cast-entries c = search needs
 
 loop-holds : tie.Need-loop-holds Inv-loop μ-loop
 loop-holds c = search needs
@@ -46,17 +61,17 @@ loop-holds c = search needs
 sub-k : tie.Need-sub-k Inv-loop μ-loop
 sub-k c = search needs
 
-mul-t15 : tie.Need-mul-t15 Inv-loop μ-loop
-mul-t15 c = search needs
+mul-t25 : tie.Need-mul-t25 Inv-loop μ-loop
+mul-t25 c = search needs
 
-element-copy-out-t18 : tie.Need-element-copy-out-t18 Inv-loop μ-loop
-element-copy-out-t18 c = search needs
+element-copy-out-t28 : tie.Need-element-copy-out-t28 Inv-loop μ-loop
+element-copy-out-t28 c = search needs
 
-mul-t19 : tie.Need-mul-t19 Inv-loop μ-loop
-mul-t19 c = search needs
+mul-t29 : tie.Need-mul-t29 Inv-loop μ-loop
+mul-t29 c = search needs
 
-element-copy-out-t22 : tie.Need-element-copy-out-t22 Inv-loop μ-loop
-element-copy-out-t22 c = search needs
+element-copy-out-t32 : tie.Need-element-copy-out-t32 Inv-loop μ-loop
+element-copy-out-t32 c = search needs
 
 takes-requires : tie.Need-takes-requires Inv-loop μ-loop
 takes-requires c κs = search needs
@@ -115,12 +130,16 @@ invalidate-spec =
     (tie.spec
     Inv-loop
     μ-loop
+    array-copy-out-used
+    array-copy-out-numerators
+    array-copy-out-denominators
+    cast-entries
     loop-holds
     sub-k
-    mul-t15
-    element-copy-out-t18
-    mul-t19
-    element-copy-out-t22
+    mul-t25
+    element-copy-out-t28
+    mul-t29
+    element-copy-out-t32
     takes-requires
     mul-invalidate-server
     element-copy-out-invalidate-server

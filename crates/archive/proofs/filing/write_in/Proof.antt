@@ -31,7 +31,7 @@ abbrev S : tie.After-write → tie.Start
 S c = c .before .before .before
 
 abbrev T : tie.After-write → Table
-T c = let a = S c .args in tableOf (a .capacity) (a .count) (a .weights .now) (a .used .now) (a .numerators .now) (a .denominators .now)
+T c = let a = S c .args in tableOf (a .shape) (a .t2)
 
 abbrev M : tie.After-write → List ℕ
 M c = S c .args .medium .now
@@ -68,6 +68,9 @@ there c = omega (arith, facts c .there, server-is c)
 free : (c : tie.After-plan2) → usedOf (T (W c)) (server c) < T (W c) .capacity
 free c = omega (arith, facts c .free, ap (usedOf (T (W c))) (server-is c))
 
+array-copy-out-used : tie.Need-array-copy-out-used
+array-copy-out-used c = search needs
+
 mul-entry : tie.Need-mul-entry
 mul-entry c = let i = facts (c .before) .inside in let l = there (c .before) in search needs
 
@@ -76,6 +79,9 @@ element-copy-out-entry c = let i = facts (c .before) .inside in let l = there (c
 
 cast-entry : tie.Need-cast-entry
 cast-entry c = let i = facts (c .before .before) .inside in omega (arith, free (c .before .before))
+
+cast-entry-at : tie.Need-cast-entry-at
+cast-entry-at c = search needs
 
 entry-at-requires : tie.Need-entry-at-requires
 entry-at-requires c κs = let p = c .before .before in let i = facts p .inside in omega (arith, there p, free p)
@@ -124,9 +130,11 @@ write-in-spec =
     write-requires
     enum-known-plan
     enum-known-plan-2
+    array-copy-out-used
     mul-entry
     element-copy-out-entry
     cast-entry
+    cast-entry-at
     entry-at-requires
     enter-requires
     invalidate-requires

@@ -31,7 +31,7 @@ abbrev S : tie.After-ready → tie.Start
 S c = c .before .before
 
 abbrev T : tie.After-ready → Table
-T c = let a = S c .args in tableOf (a .capacity) (a .count) (a .weights .now) (a .used .now) (a .numerators .now) (a .denominators .now)
+T c = let a = S c .args in tableOf (a .shape) (a .columns)
 
 abbrev M : tie.After-ready → List ℕ
 M c = S c .args .medium .now
@@ -73,14 +73,14 @@ unfolding replyOfLookup numberOf
 returns-2 c =
     let f = c .before .before .before in
     let r = R f in
-    looked-none (T r) (M r) (S r .args .id) (accepted-here (E f)) _ (f .find .ensures (T r .weights)) (c .before .found .given .1)
+    looked-none (T r) (M r) (S r .args .id) (accepted-here (E f)) _ (f .find .ensures) (c .before .found .given .1)
 
 -- the entry met: its server is there, and it is used
 met-here : (c : tie.After-found2) → Met (T (R (c .before .before))) (M (R (c .before .before))) (S (R (c .before .before)) .args .id) (record { server = c .found2 .given .0 .0; entry = c .found2 .given .0 .1 .0 })
 met-here c =
     let f = c .before .before in
     let r = R f in
-    met-some (T r) (M r) (S r .args .id) _ (found-some (searchFor (T r) (M r) (S r .args .id)) (f .find .ensures (T r .weights)) _ _ _ (c .found2 .given .1) .0)
+    met-some (T r) (M r) (S r .args .id) _ (found-some (searchFor (T r) (M r) (S r .args .id)) (f .find .ensures) _ _ _ (c .found2 .given .1) .0)
 
 met-requires : tie.Need-met-requires
 met-requires c κs =
@@ -99,7 +99,7 @@ returns-3 c =
     let d = c .before .before in
     let f = d .before .before in
     let r = R f in
-    rw (c .met .ensures) (looked-some (T r) (M r) (S r .args .id) (accepted-here (E f)) _ _ _ (f .find .ensures (T r .weights)) (d .found2 .given .1))
+    rw (c .met .ensures) (looked-some (T r) (M r) (S r .args .id) (accepted-here (E f)) _ _ _ (f .find .ensures) (d .found2 .given .1))
 
 pub lookup-in-spec : {M : Type 1} → statement M
 lookup-in-spec =
