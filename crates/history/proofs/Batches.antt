@@ -1,27 +1,24 @@
--- A batch of lookups answers as the ledger does, and so does every list of calls with batches between them.
+-- A batch of lookups answers as the ledger does.
 -- Assumes nothing.
 use Prim.Native.Nat.{ℕ, _<_}
 use mathlib.Core.Path.{_≡_, refl, ap, ap₂, _∙_}
 use mathlib.Core.Bool.{Bool, false, _&&_}
-use mathlib.Core.List.{List, [], _∷_}
+use mathlib.Core.List.{List}
 use mathlib.Core.Option.{Option, none, some}
 use lib.Dec.{leb}
 use Rattle.placement.specs.Below.{nth}
 use Rattle.table.specs.declared.Table.{Table}
-use Rattle.archive.specs.declared.Batch.{Batch}
 use Rattle.archive.specs.Opened.{lowest, opens}
 use Rattle.archive.specs.Calls.{lookupRows}
 use Rattle.archive.specs.Batch.{lookupOpens, openedAt, batchReply}
 use Rattle.archive.proofs.Refusals.{settle-both}
 use Rattle.archive.proofs.Accepted.{in-range}
 use Rattle.archive.proofs.Orders.{batch-cong}
-use Rattle.history.specs.Call.{lookup, Turn, call, batch, Compared, compared, Answer, one, many}
-use Rattle.history.specs.Machine.{State, next, answers}
-use Rattle.history.specs.Ledger.{Ledger, Standing, standing, lookupRowsL, enter, standsFrom, opensL, openedAtL, batchL, ledgerAnswers}
+use Rattle.history.specs.Call.{Compared, compared}
+use Rattle.history.specs.Ledger.{Ledger, Standing, standing, lookupRowsL, enter, standsFrom, opensL, openedAtL, batchL}
 use Rattle.history.proofs.Events.{placeOf}
 use Rattle.history.proofs.Agree.{Agree, same-reads, same-met}
 use Rattle.history.proofs.LookupStep.{same-rows, lookup-step}
-use Rattle.history.proofs.Run.{Agrees, step}
 
 lowest-from : (o : Option Standing) → lowest (placeOf o) ≡ standsFrom o
 unfolding lowest placeOf standsFrom
@@ -37,19 +34,10 @@ module _ {t : Table} {m : List ℕ} {L : Ledger} (A : Agree t m L) where
       ap₂ (λ (from : ℕ) (b : Bool). leb from k && b) (ap lowest (same-met A id (in-range _ id _ z)) ∙ lowest-from (standing (L .events) id)) (same-reads A id k l))
       refl
 
-  same-batch : (ids : List ℕ) → batchReply t m ids ≡ batchL L ids
-  unfolding batchReply batchL compared openedAt openedAtL
+  pub same-batch : (ids : List ℕ) → batchReply t m ids ≡ batchL L ids
+  unfolding batchReply batchL compared openedAt openedAtL enter
   same-batch ids = batch-cong ids (openedAt t m ids) (openedAtL L ids) (t .count) (L .servers) (A .count)
       (λ i k l. same-opens (nth ids i) k l) _ _ _ _ _ _
       (λ i.
       let e = lookup-step A (nth ids i) .alike in
       (ap (λ (c : Compared). c .refusal) e, ap (λ (c : Compared). c .value) e, ap (λ (c : Compared). c .opened) e))
-
--- every list of calls and batches
-pub turns-alike : (turns : List Turn) (S : State) (L : Ledger) → Agrees S L → answers S turns ≡ ledgerAnswers L turns
-unfolding answers ledgerAnswers
-turns-alike [] S L A = refl
-turns-alike (call c ∷ turns) S L A =
-    let s = step S L A c in
-    ap₂ (λ (x : Compared) (l : List Answer). one x ∷ l) (s .alike) (turns-alike turns (next S c) (enter L c .ledger) (s .agrees))
-turns-alike (batch ids ∷ turns) S L A = ap₂ (λ (x : Batch) (l : List Answer). many x ∷ l) (same-batch A ids) (turns-alike turns S L A)

@@ -15,7 +15,7 @@ use Rattle.table.proofs.Soundness.{Arrays}
 use Rattle.archive.specs.Calls.{addServerRows, addServerTable, reweightRows, reweightTable, writeRows, writeTable}
 use Rattle.archive.proofs.Refusals.{settle-either}
 use Rattle.archive.proofs.Accepted.{addServer-accepted}
-use Rattle.history.specs.Call.{Call, addServer, reweight, write, delete, lookup}
+use Rattle.history.specs.Call.{Call, addServer, reweight, write, delete, lookup, batch}
 use Rattle.history.specs.Machine.{State, next, after}
 use Rattle.history.specs.Replay.{callsBelow, withReplies, roomFor, replyAt}
 use Rattle.history.specs.Lent.{tableLength, tableFrom, wordsOf, withTable, lent, resumes}
@@ -97,6 +97,7 @@ next-count S (reweight server weight) l = settle-either (reweightRows (S .table)
 next-count S (write id value) l = settle-either (writeRows (S .table) (S .medium) id value) _ _ Fits (λ z. l) l
 next-count S (delete id) l = l
 next-count S (lookup id) l = l
+next-count S (batch ids) l = l
 
 after-count : (calls : List Call) (S : State) → Fits (S .table) → Fits (after S calls .table)
 unfolding after

@@ -16,7 +16,7 @@ use Rattle.table.specs.declared.Table.{Table}
 use Rattle.table.specs.Sound.{usedOf}
 use Rattle.archive.specs.Refusal.{Row, firstOf, settle}
 use Rattle.archive.specs.Calls.{startRows, target, writeRows, writeBurns, writeMedium, deleteRows, deleteMarks, deleteMedium}
-use Rattle.history.specs.Call.{Call, addServer, reweight, write, delete, lookup}
+use Rattle.history.specs.Call.{Call, addServer, reweight, write, delete, lookup, batch}
 use Rattle.history.specs.Machine.{State, next, after, begin}
 use Rattle.history.specs.Ledger.{Event, wrote, deleted, Ledger, Entered, enterBy, opening, usedBy, range, addServerRowsL, withServerL, reweightRowsL, withWeightL, withEvent, writeRowsL, deleteRowsL, lookupRowsL, enter, ledgerAfter}
 use Rattle.history.specs.Demand3.{stateThen, ledgerThen}
@@ -102,6 +102,7 @@ next-rules S L A R (reweight server weight) = same-rules L (S .medium) R (reweig
 next-rules S L A R (write id value) = write-rules A R id value
 next-rules S L A R (delete id) = delete-rules A R id
 next-rules S L A R (lookup id) = same-rules L (S .medium) R (lookupRowsL L id) _ R
+next-rules S L A R (batch ids) = R
 
 run-rules : (calls : List Call) (S : State) (L : Ledger) → Agrees S L → Rules L (S .medium) → Rules (ledgerAfter L calls) (after S calls .medium)
 unfolding after ledgerAfter

@@ -6,12 +6,14 @@ use mathlib.Core.Logic.{_≢_, _⊎_, inl, inr}
 use mathlib.Core.Bool.{Bool, true, not, _&&_}
 use mathlib.Core.List.{List, [], _∷_, List·Memᴰ, List·Memᴰ·not-nil, List·Memᴰ·cases-cons}
 use mathlib.Core.Option.{Option, none, some}
-use lib.Dec.{eqb}
+use lib.ListN.{length}
+use lib.Dec.{ltb, eqb}
 use borrow.Author.Tests.{not-true, eqb-false}
 use Rattle.placement.proofs.Tests.{byBool, and-l, and-r}
-use Rattle.archive.specs.Refusal.{Row, firstOf}
-use Rattle.history.specs.Call.{Call, addServer, reweight, write, delete, lookup, Compared}
-use Rattle.history.specs.Ledger.{Ledger, Standing, Entered, standing, enterBy, addServerRowsL, reweightRowsL, writeRowsL, deleteRowsL, lookupRowsL, standingReply, enter, ledgerReplies}
+use Rattle.archive.specs.Refusal.{Row, firstOf, settle}
+use Rattle.archive.specs.Batch.{batchBy, batchRows, settledBatch}
+use Rattle.history.specs.Call.{Call, addServer, reweight, write, delete, lookup, batch, Compared}
+use Rattle.history.specs.Ledger.{Ledger, Standing, Entered, standing, enterBy, addServerRowsL, reweightRowsL, writeRowsL, deleteRowsL, lookupRowsL, standingReply, batchL, enter, ledgerReplies}
 use Rattle.history.proofs.Entering.{entered}
 
 -- a number that a list of calls may meet
@@ -46,6 +48,10 @@ unfolding standingReply usual
 standing-usual L id none = refl
 standing-usual L id (some x) = refl
 
+batch-usual : (L : Ledger) (ids : List ℕ) → usual (batchL L ids .refusal) ≡ true
+unfolding batchL batchBy settledBatch batchRows settle firstOf usual
+batch-usual L ids = byBool (ltb 256 (length ids)) (λ d. rw d) (λ d. rw d)
+
 enter-usual : (L : Ledger) (c : Call) → usual (enter L c .reply .refusal) ≡ true
 unfolding enter addServerRowsL reweightRowsL writeRowsL deleteRowsL lookupRowsL usualRows usual
 enter-usual L (addServer weight) = entered-usual L (addServerRowsL L weight) _ refl refl
@@ -53,6 +59,7 @@ enter-usual L (reweight server weight) = entered-usual L (reweightRowsL L server
 enter-usual L (write id value) = entered-usual L (writeRowsL L id value) _ refl refl
 enter-usual L (delete id) = entered-usual L (deleteRowsL L id) _ refl refl
 enter-usual L (lookup id) = entered-usual L (lookupRowsL L id) _ refl (standing-usual L id (standing (L .events) id))
+enter-usual L (batch ids) = batch-usual L ids
 
 pub ledger-usual : (calls : List Call) (L : Ledger) (r : Compared) → List·Memᴰ r (ledgerReplies L calls) → usual (r .refusal) ≡ true
 unfolding ledgerReplies

@@ -30,7 +30,7 @@ use Rattle.archive.proofs.Refusals.{settle-yes, settle-no}
 use Rattle.archive.proofs.Answers.{number-not-zero, reply-number}
 use Rattle.archive.proofs.Accepted.{Filed, filed, table-kept}
 use Rattle.archive.proofs.Small.{Small, addServer-small, reweight-small, write-small, delete-small, lookup-small}
-use Rattle.history.specs.Call.{Call, addServer, reweight, write, delete, lookup, compared}
+use Rattle.history.specs.Call.{Call, addServer, reweight, write, delete, lookup, batch, compared}
 use Rattle.history.specs.Machine.{State, reply, next, after, begin}
 use Rattle.history.specs.Ledger.{opening, ledgerAfter}
 use Rattle.history.specs.Replay.{callOf, callAt, appended, callsBelow, replyTo, nextBy, ledgerReplyTo, usedAfter, withReply, withReplies, roomFor, runs, started, replyAt, ledgerReplyAt, LedgerWords}
@@ -112,6 +112,7 @@ replyTo-small S (some (reweight server weight)) = reweight-small (S .table) serv
 replyTo-small S (some (write id value)) = write-small (S .table) (S .medium) id value
 replyTo-small S (some (delete id)) = delete-small (S .table) (S .medium) id
 replyTo-small S (some (lookup id)) = lookup-small (S .table) (S .medium) id
+replyTo-small S (some (batch ids)) = record { server = omega arith; opened = omega arith; invalidated = omega arith }
 
 pub called-small : (S : State) (o : Option Call) (r : Reply) → r ≡ replyTo S o → (r .server < 4294967296) × (r .opened < 4294967296) × (r .invalidated < 4294967296)
 called-small S o r e = let s : Small r = rw e (replyTo-small S o) in (s .server, s .opened, s .invalidated)

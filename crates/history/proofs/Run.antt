@@ -1,7 +1,7 @@
 -- A started table over blank words agrees with the opened ledger, and every list of calls keeps them in agreement.
 -- Assumes nothing.
 use Prim.Native.Nat.{ℕ}
-use mathlib.Core.Path.{_≡_, refl, ap₂}
+use mathlib.Core.Path.{_≡_, refl, ap, ap₂}
 use mathlib.Core.Bool.{true, not, _&&_}
 use mathlib.Core.List.{List, [], _∷_, map}
 use native.Mathlib.Omega.{arith}
@@ -14,9 +14,10 @@ use Rattle.table.specs.Upkeep.{empty}
 use Rattle.medium.proofs.Places.{server-zero}
 use Rattle.table.proofs.Soundness.{empty-arrays, empty-sound}
 use Rattle.archive.specs.Refusal.{firstOf}
+use Rattle.archive.specs.declared.Batch.{Batch}
 use Rattle.archive.specs.Calls.{startRows, startTable}
-use Rattle.history.specs.Call.{Call, addServer, reweight, write, delete, lookup, Compared, compared}
-use Rattle.history.specs.Machine.{State, reply, next, after, replies, begin}
+use Rattle.history.specs.Call.{Call, addServer, reweight, write, delete, lookup, batch, Compared, compared}
+use Rattle.history.specs.Machine.{State, inBrief, reply, next, after, replies, begin}
 use Rattle.history.specs.Ledger.{Ledger, opening, usedBy, standing, enter, ledgerAfter, ledgerReplies}
 use Rattle.archive.proofs.Refusals.{passed, settle-yes}
 use Rattle.history.proofs.Tops.{TopAt}
@@ -27,6 +28,7 @@ use Rattle.history.proofs.ReweightStep.{reweight-step}
 use Rattle.history.proofs.WriteStep.{write-step}
 use Rattle.history.proofs.DeleteStep.{delete-step}
 use Rattle.history.proofs.LookupStep.{lookup-step}
+use Rattle.history.proofs.Batches.{same-batch}
 
 abbrev pub Agrees : State → Ledger → Type 0
 Agrees S L = Agree (S .table) (S .medium) L
@@ -63,12 +65,13 @@ begin-agrees capacity n z =
     })
 
 pub step : (S : State) (L : Ledger) → Agrees S L → (c : Call) → Step (reply S c) (next S c .table) (next S c .medium) (enter L c)
-unfolding reply next
+unfolding reply next enter compared
 step S L A (addServer weight) = add-server-step A weight
 step S L A (reweight server weight) = reweight-step A server weight
 step S L A (write id value) = write-step A id value
 step S L A (delete id) = delete-step A id
 step S L A (lookup id) = lookup-step A id
+step S L A (batch ids) = record { alike = ap (λ (b : Batch). compared (inBrief b)) (same-batch A ids); agrees = A }
 
 pub record Ran (S : State) (L : Ledger) (calls : List Call) : Type 0 where
   pub alike : map compared (replies S calls) ≡ ledgerReplies L calls

@@ -10,14 +10,14 @@ use Rattle.placement.specs.Below.{nth}
 use Rattle.archive.specs.Refusal.{firstOf}
 use Rattle.archive.specs.declared.Reply.{Reply}
 use Rattle.archive.specs.Calls.{startRows, lookupReply}
-use Rattle.history.specs.Call.{Call, Turn, callsOf, Compared, compared}
+use Rattle.history.specs.Call.{Call, Compared, compared}
 use Rattle.history.specs.Machine.{State, begin}
 use Rattle.history.specs.Ledger.{Event, wrote, Ledger, Standing, opening, usedBy, standing, range, standingReply}
 use Rattle.history.specs.Demand3.{Stands, Demand3, stateThen, ledgerThen}
 use Rattle.history.proofs.Events.{standingAfter, used-write, own-entry, last-stands, stands-came}
 use Rattle.history.proofs.Holds.{write-there}
 use Rattle.history.proofs.LookupStep.{stands-written, looked}
-use Rattle.history.proofs.Batches.{turns-alike}
+use Rattle.history.proofs.Batches.{same-batch}
 use Rattle.history.proofs.Run.{Agrees, begin-agrees, run}
 use Rattle.history.proofs.Never.{usual-is, ledger-usual}
 use Rattle.history.proofs.Counting.{live-writes}
@@ -68,16 +68,16 @@ nothing : (o : Option Standing) → ((x : Standing) → o ≡ some x → ⊥) �
 nothing none f = refl
 nothing (some x) f = absurd (f x refl)
 
-pub demand3 : (capacity n : ℕ) → firstOf (startRows capacity) ≡ 0 → (turns : List Turn) → Demand3 capacity n turns
+pub demand3 : (capacity n : ℕ) → firstOf (startRows capacity) ≡ 0 → (calls : List Call) → Demand3 capacity n calls
 unfolding compared
-demand3 capacity n z turns =
-    let calls = callsOf turns in
+demand3 capacity n z calls =
     let S = stateThen capacity n calls in
     let L = ledgerThen capacity n calls in
     let r = run calls (begin capacity n) (opening capacity n) (begin-agrees capacity n z) in
-    let A : Agrees (stateThen capacity n (callsOf turns)) (ledgerThen capacity n (callsOf turns)) = r .agrees in
+    let A : Agrees (stateThen capacity n calls) (ledgerThen capacity n calls) = r .agrees in
     record {
-      alike = turns-alike turns (begin capacity n) (opening capacity n) (begin-agrees capacity n z);
+      alike = r .alike;
+      batches = λ before later ids e. same-batch (run before (begin capacity n) (opening capacity n) (begin-agrees capacity n z) .agrees) ids;
       finds = λ id value server w. finds S L A id (standingAfter (w .older) value server) (last-stands (L .events) id value server w);
       absent = λ id s l. (
         λ e value server w. not-both (absent S L A id s l .0 e) (last-stands (L .events) id value server w),

@@ -6,7 +6,7 @@ use mathlib.Core.Logic.{_≢_}
 use mathlib.Core.List.{List, [], _∷_, _++_}
 use Rattle.placement.specs.Below.{nth}
 use Rattle.medium.specs.Word.{blank}
-use Rattle.history.specs.Call.{Call, addServer, reweight, write, delete, lookup}
+use Rattle.history.specs.Call.{Call, addServer, reweight, write, delete, lookup, batch}
 use Rattle.history.specs.Machine.{State, next, after}
 use Rattle.archive.proofs.Once.{write-once, delete-once}
 
@@ -17,6 +17,7 @@ next-once S (reweight server weight) a f = refl
 next-once S (write id value) a f = write-once (S .table) (S .medium) id value a f
 next-once S (delete id) a f = delete-once (S .table) (S .medium) id a f
 next-once S (lookup id) a f = refl
+next-once S (batch ids) a f = refl
 
 pub after-once : (calls : List Call) (S : State) (a : ℕ) → nth (S .medium) a ≢ blank → nth (after S calls .medium) a ≡ nth (S .medium) a
 unfolding after

@@ -3,7 +3,7 @@ use Prim.Native.Nat.{ℕ, _≤_, _<_}
 use mathlib.Core.Bool.{Bool, true, not, _&&_}
 use mathlib.Core.Path.{_≡_}
 use mathlib.Core.Logic.{_↔_, _≢_}
-use mathlib.Core.List.{List, [], _∷_, _++_, List·Memᴰ}
+use mathlib.Core.List.{List, [], _∷_, _++_, List·Memᴰ, map}
 use lib.ListN.{length}
 use lib.Dec.{eqb}
 use Rattle.placement.specs.Below.{nth}
@@ -11,9 +11,10 @@ use Rattle.medium.specs.Word.{idWord, valueWord, blank}
 use Rattle.medium.specs.Entry.{entryAt, valueAt}
 use Rattle.archive.specs.declared.Reply.{Reply}
 use Rattle.archive.specs.Calls.{lookupReply}
-use Rattle.history.specs.Call.{Call, Turn, callsOf}
-use Rattle.history.specs.Machine.{State, after, replies, answers, begin, liveEntries}
-use Rattle.history.specs.Ledger.{Event, wrote, deleted, Ledger, opening, usedBy, writes, range, ledgerAfter, ledgerAnswers}
+use Rattle.archive.specs.Batch.{batchReply}
+use Rattle.history.specs.Call.{Call, batch, compared}
+use Rattle.history.specs.Machine.{State, after, replies, begin, liveEntries}
+use Rattle.history.specs.Ledger.{Event, wrote, deleted, Ledger, opening, usedBy, writes, range, batchL, ledgerAfter, ledgerReplies}
 
 -- no event of an id among these
 unfoldable pub untouched : ℕ → List Event → Bool
@@ -49,21 +50,22 @@ module _ (capacity n : ℕ) (calls : List Call) where
   abbrev pub lookupThen : ℕ → Reply
   lookupThen id = lookupReply (stateThen .table) (stateThen .medium) id
 
--- the same of a list in which batches of lookups may stand between the calls
-module _ (capacity n : ℕ) (turns : List Turn) where
+module _ (capacity n : ℕ) (calls : List Call) where
   abbrev S : State
-  S = stateThen capacity n (callsOf turns)
+  S = stateThen capacity n calls
 
   abbrev L : Ledger
-  L = ledgerThen capacity n (callsOf turns)
+  L = ledgerThen capacity n calls
 
   abbrev found : ℕ → Reply
-  found id = lookupThen capacity n (callsOf turns) id
+  found id = lookupThen capacity n calls id
 
   pub record Demand3 : Type 0 where
-    -- each call answers with the refusal number, server, value and opened count that the ledger gives, and each batch with the
-    -- ledger's whole answer
-    pub alike : answers (begin capacity n) turns ≡ ledgerAnswers (opening capacity n) turns
+    -- each call answers with the refusal number, server, value and opened count that the ledger gives
+    pub alike : map compared (replies (begin capacity n) calls) ≡ ledgerReplies (opening capacity n) calls
+    -- and each batch of lookups with the ledger's whole answer
+    pub batches : (before later : List Call) (ids : List ℕ) → before ++ (batch ids ∷ later) ≡ calls
+        → batchReply (stateThen capacity n before .table) (stateThen capacity n before .medium) ids ≡ batchL (ledgerThen capacity n before) ids
     -- a lookup finds the value of the last accepted write of the id with no accepted delete afterwards
     pub finds : (id value server : ℕ) → LastWrite (L .events) id value server
         → (found id .refusal ≡ 0) × (found id .value ≡ value)
@@ -71,7 +73,7 @@ module _ (capacity n : ℕ) (turns : List Turn) where
     pub absent : (id : ℕ) → id < range → 0 < L .servers
         → (found id .refusal ≡ 8) ↔ ((value server : ℕ) → LastWrite (L .events) id value server → ⊥)
     -- every word that is not blank after some first part of the list stands unaltered after all of it
-    pub unaltered : (before later : List Call) → before ++ later ≡ callsOf turns → (a : ℕ)
+    pub unaltered : (before later : List Call) → before ++ later ≡ calls → (a : ℕ)
         → nth (after (begin capacity n) before .medium) a ≢ blank
         → nth (S .medium) a ≡ nth (after (begin capacity n) before .medium) a
     -- id and value of each accepted write stand on the server that the ledger gave it, in the entry that was then its used
@@ -87,5 +89,5 @@ module _ (capacity n : ℕ) (turns : List Turn) where
     -- the live entries of all ids together are at most the accepted writes
     pub live : liveEntries S ≤ writes (L .events)
     -- 1, 7 and 10 never come
-    pub never : (r : Reply) → List·Memᴰ r (replies (begin capacity n) (callsOf turns))
+    pub never : (r : Reply) → List·Memᴰ r (replies (begin capacity n) calls)
         → (r .refusal ≢ 1) × (r .refusal ≢ 7) × (r .refusal ≢ 10)

@@ -14,7 +14,7 @@ use Rattle.placement.specs.Rule.{writeP, writeServer, readable}
 use Rattle.archive.specs.Refusal.{Row, _when_, firstOf, settle}
 use Rattle.archive.specs.declared.Batch.{Batch}
 use Rattle.archive.specs.Batch.{batchBy, settledBatch}
-use Rattle.history.specs.Call.{Call, addServer, reweight, write, delete, lookup, Turn, call, batch, Compared, Answer, one, many}
+use Rattle.history.specs.Call.{Call, addServer, reweight, write, delete, lookup, batch, Compared}
 
 -- an accepted write (id, value, server) or an accepted delete
 pub data Event : Type 0 where
@@ -186,18 +186,9 @@ unfoldable pub standingReply : Ledger → ℕ → Option Standing → Compared
 standingReply L id none = told 8 0 0 (openedFrom L id 0)
 standingReply L id (some x) = told 0 0 (x .value) (openedFrom L id (x .server))
 
-unfoldable pub enter : Ledger → Call → Entered
-enter L (addServer weight) =
-    enterBy L (addServerRowsL L weight) (record { reply = told 0 (L .servers) 0 0; ledger = withServerL L weight })
-enter L (reweight server weight) =
-    enterBy L (reweightRowsL L server weight) (record { reply = told 0 server 0 0; ledger = withWeightL L server weight })
-enter L (write id value) =
-    let k = targetL L id in
-    enterBy L (writeRowsL L id value) (record { reply = told 0 k 0 0; ledger = withEvent L (wrote id value k) })
-enter L (delete id) =
-    enterBy L (deleteRowsL L id) (record { reply = told 0 0 0 0; ledger = withEvent L (deleted id) })
-enter L (lookup id) =
-    enterBy L (lookupRowsL L id) (record { reply = standingReply L id (standing (L .events) id); ledger = L })
+-- a lookup changes nothing
+abbrev pub lookupL : Ledger → ℕ → Entered
+lookupL L id = enterBy L (lookupRowsL L id) (record { reply = standingReply L id (standing (L .events) id); ledger = L })
 
 -- a batch of lookups, which changes nothing: the replies of its lookups, and the servers that they open
 
@@ -215,12 +206,25 @@ unfoldable pub batchL : Ledger → List ℕ → Batch
 batchL L ids =
     settledBatch ids
     (batchBy
-    (λ i. enter L (lookup (nth ids i)) .reply .refusal)
-    (λ i. enter L (lookup (nth ids i)) .reply .value)
-    (λ i. enter L (lookup (nth ids i)) .reply .opened)
+    (λ i. lookupL L (nth ids i) .reply .refusal)
+    (λ i. lookupL L (nth ids i) .reply .value)
+    (λ i. lookupL L (nth ids i) .reply .opened)
     (openedAtL L ids)
     (length ids)
     (L .servers))
+
+unfoldable pub enter : Ledger → Call → Entered
+enter L (addServer weight) =
+    enterBy L (addServerRowsL L weight) (record { reply = told 0 (L .servers) 0 0; ledger = withServerL L weight })
+enter L (reweight server weight) =
+    enterBy L (reweightRowsL L server weight) (record { reply = told 0 server 0 0; ledger = withWeightL L server weight })
+enter L (write id value) =
+    let k = targetL L id in
+    enterBy L (writeRowsL L id value) (record { reply = told 0 k 0 0; ledger = withEvent L (wrote id value k) })
+enter L (delete id) =
+    enterBy L (deleteRowsL L id) (record { reply = told 0 0 0 0; ledger = withEvent L (deleted id) })
+enter L (lookup id) = lookupL L id
+enter L (batch ids) = record { reply = told (batchL L ids .refusal) 0 0 0; ledger = L }
 
 unfoldable pub ledgerAfter : Ledger → List Call → Ledger
 ledgerAfter L [] = L
@@ -229,8 +233,3 @@ ledgerAfter L (c ∷ cs) = ledgerAfter (enter L c .ledger) cs
 unfoldable pub ledgerReplies : Ledger → List Call → List Compared
 ledgerReplies L [] = []
 ledgerReplies L (c ∷ cs) = enter L c .reply ∷ ledgerReplies (enter L c .ledger) cs
-
-unfoldable pub ledgerAnswers : Ledger → List Turn → List Answer
-ledgerAnswers L [] = []
-ledgerAnswers L (call c ∷ turns) = one (enter L c .reply) ∷ ledgerAnswers (enter L c .ledger) turns
-ledgerAnswers L (batch ids ∷ turns) = many (batchL L ids) ∷ ledgerAnswers L turns

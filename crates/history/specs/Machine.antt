@@ -10,13 +10,19 @@ use Rattle.medium.specs.Entry.{entryAt, live}
 use Rattle.table.specs.declared.Table.{Table}
 use Rattle.table.specs.Sound.{usedOf}
 use Rattle.archive.specs.declared.Reply.{Reply}
+use Rattle.archive.specs.declared.Batch.{Batch}
+use Rattle.archive.specs.Reply.{refused}
 use Rattle.archive.specs.Calls.{startTable, addServerReply, addServerTable, reweightReply, reweightTable, writeReply, writeTable, writeMedium, deleteReply, deleteMedium, lookupReply}
 use Rattle.archive.specs.Batch.{batchReply}
-use Rattle.history.specs.Call.{Call, addServer, reweight, write, delete, lookup, Turn, call, batch, compared, Answer, one, many}
+use Rattle.history.specs.Call.{Call, addServer, reweight, write, delete, lookup, batch}
 
 pub record State : Type 0 where
   pub table : Table
   pub medium : List ℕ
+
+-- a batch in one reply: its refusal number
+abbrev pub inBrief : Batch → Reply
+inBrief b = refused (b .refusal) 0
 
 unfoldable pub reply : State → Call → Reply
 reply S (addServer weight) = addServerReply (S .table) (S .medium) weight
@@ -24,6 +30,7 @@ reply S (reweight server weight) = reweightReply (S .table) server weight
 reply S (write id value) = writeReply (S .table) (S .medium) id value
 reply S (delete id) = deleteReply (S .table) (S .medium) id
 reply S (lookup id) = lookupReply (S .table) (S .medium) id
+reply S (batch ids) = inBrief (batchReply (S .table) (S .medium) ids)
 
 unfoldable pub next : State → Call → State
 next S (addServer weight) = record { table = addServerTable (S .table) (S .medium) weight; medium = S .medium }
@@ -31,6 +38,7 @@ next S (reweight server weight) = record { table = reweightTable (S .table) serv
 next S (write id value) = record { table = writeTable (S .table) (S .medium) id value; medium = writeMedium (S .table) (S .medium) id value }
 next S (delete id) = record { table = S .table; medium = deleteMedium (S .table) (S .medium) id }
 next S (lookup id) = S
+next S (batch ids) = S
 
 unfoldable pub after : State → List Call → State
 after S [] = S
@@ -39,12 +47,6 @@ after S (c ∷ cs) = after (next S c) cs
 unfoldable pub replies : State → List Call → List Reply
 replies S [] = []
 replies S (c ∷ cs) = reply S c ∷ replies (next S c) cs
-
--- the answers to a list of turns
-unfoldable pub answers : State → List Turn → List Answer
-answers S [] = []
-answers S (call c ∷ turns) = one (compared (reply S c)) ∷ answers (next S c) turns
-answers S (batch ids ∷ turns) = many (batchReply (S .table) (S .medium) ids) ∷ answers S turns
 
 -- a started table over n blank words
 unfoldable pub begin : ℕ → ℕ → State
