@@ -1,6 +1,6 @@
 //! Safe wrappers of the proved functions. A slice passes as a pointer and a length in words.
 
-#[link(name = "history", kind = "static")]
+#[link(name = "replay", kind = "static")]
 extern "C" {
     #[link_name = "replay"]
     fn proved_replay(

@@ -9,33 +9,40 @@ use native.Mathlib.Omega.{arith}
 use lib.ListN.{length}
 use lib.Dec.{leb, ltb, eqb}
 use borrow.Author.Tests.{leb-false, eqb-false, not-false}
-use Rattle.placement.specs.Below.{nth}
+use Rattle.lists.specs.Below.{nth}
+use Rattle.lists.proofs.Tests.{byBool, true-not-false}
 use Rattle.placement.specs.Draw.{modulus, drawOf}
 use Rattle.placement.specs.Rule.{pick, writeServer}
-use Rattle.placement.proofs.Tests.{byBool, true-not-false}
 use Rattle.placement.proofs.Rules.{pick-cong}
 use Rattle.medium.specs.Word.{idWord, valueWord, replaced, deleted}
 use Rattle.medium.specs.Entry.{serverAt, entryAt, blankRun}
 use Rattle.medium.specs.Burn.{burnAll, marksOver, invalidations}
 use Rattle.medium.proofs.Marks.{marksOver-cong}
 use Rattle.table.specs.declared.Table.{Table}
-use Rattle.table.specs.Sound.{weightOf, usedOf, sound}
+use Rattle.table.specs.Sound.{weightOf, usedOf, sound, reads}
 use Rattle.table.specs.Upkeep.{withEntry}
 use Rattle.table.proofs.Upkeep.{Arrays, withServer-arrays, withWeight-arrays, withEntry-arrays}
 use Rattle.table.proofs.Soundness.{sound-facts}
 use Rattle.table.proofs.Agreement.{AgreeBelow, agree-sound, agree-withServer, agree-withWeight, agree-withEntry}
-use Rattle.archive.specs.Refusal.{firstOf}
-use Rattle.archive.specs.declared.Reply.{Reply}
-use Rattle.archive.specs.Reply.{onServer}
-use Rattle.archive.specs.Search.{Search, reads}
-use Rattle.archive.specs.Opened.{lowest, opens, SameOpened}
-use Rattle.archive.specs.Calls.{addServerRows, addServerReply, addServerTable, reweightRows, reweightReply, reweightTable, short, target, writeRows, writeMarks, writeBurns, writeReply, writeTable, writeMedium, deleteRows, deleteMarks, deleteReply, deleteMedium, lookupRows, lookupReply}
-use Rattle.archive.specs.Batch.{lookupOpens, openedAt, batchReply}
-use Rattle.archive.proofs.Refusals.{passed, first-same, settle-both, reply-same}
-use Rattle.archive.proofs.Accepted.{addServer-accepted, reweight-accepted, write-accepted, lookup-accepted}
-use Rattle.archive.proofs.Searches.{reads-same, target-is, deleted-some}
-use Rattle.archive.proofs.Orders.{batch-cong}
-use Rattle.archive.proofs.OpenedByValues.{same-met, opened-by-values}
+use Rattle.replies.specs.Refusal.{firstOf}
+use Rattle.replies.specs.declared.Reply.{Reply}
+use Rattle.replies.specs.Reply.{onServer}
+use Rattle.replies.proofs.Refusals.{passed, first-same, settle-both, reply-same}
+use Rattle.lookup.specs.Search.{Search}
+use Rattle.lookup.specs.Opened.{lowest, opens, SameOpened}
+use Rattle.lookup.specs.Lookup.{short, lookupRows, lookupReply}
+use Rattle.lookup.proofs.Passed.{lookup-accepted}
+use Rattle.lookup.proofs.Searches.{reads-same}
+use Rattle.lookup.proofs.OpenedByValues.{same-met, opened-by-values}
+use Rattle.deletion.specs.Deletion.{deleteRows, deleteMarks, deleteReply, deleteMedium}
+use Rattle.deletion.proofs.Done.{deleted-some}
+use Rattle.writing.specs.Writing.{target, writeRows, writeMarks, writeBurns, writeReply, writeTable, writeMedium}
+use Rattle.writing.proofs.Accepted.{write-accepted}
+use Rattle.writing.proofs.Targets.{target-is}
+use Rattle.servers.specs.Servers.{addServerRows, addServerReply, addServerTable, reweightRows, reweightReply, reweightTable}
+use Rattle.servers.proofs.Accepted.{addServer-accepted, reweight-accepted}
+use Rattle.batch.specs.Batch.{lookupOpens, openedAt, batchReply}
+use Rattle.batch.proofs.Orders.{batch-cong}
 
 -- two tables that agree below the count, with their arrays' lengths
 pub record Alike (t u : Table) : Type 0 where

@@ -11,7 +11,7 @@ use lib.ListN.{set}
 use lib.Seq.{getD-set-other}
 use lib.Dec.{leb, eqb}
 use borrow.Author.Tests.{not-false}
-use Rattle.placement.specs.Below.{nth}
+use Rattle.lists.specs.Below.{nth}
 use Rattle.medium.specs.Word.{contentRange, idWord, valueWord, blank, replaced, deleted}
 use Rattle.medium.specs.Entry.{entryAt, blankRun}
 use Rattle.medium.specs.Burn.{burnAll, marksOver, invalidations}
@@ -19,11 +19,12 @@ use Rattle.medium.proofs.Entries.{blank-at}
 use Rattle.medium.proofs.Burns.{invalidations-off}
 use Rattle.medium.proofs.Marks.{marks-blank}
 use Rattle.table.specs.declared.Table.{Table}
-use Rattle.table.specs.Sound.{usedOf, sound}
-use Rattle.archive.specs.Refusal.{firstOf}
-use Rattle.archive.specs.Search.{reads}
-use Rattle.archive.specs.Calls.{short, target, writeRows, writeMarks, writeBurns, writeMedium, deleteRows, deleteMarks, deleteMedium}
-use Rattle.archive.proofs.Refusals.{settle-either, passed}
+use Rattle.table.specs.Sound.{usedOf, sound, reads}
+use Rattle.replies.specs.Refusal.{firstOf}
+use Rattle.replies.proofs.Refusals.{settle-either, passed}
+use Rattle.lookup.specs.Lookup.{short}
+use Rattle.deletion.specs.Deletion.{deleteRows, deleteMarks, deleteMedium}
+use Rattle.writing.specs.Writing.{target, writeRows, writeMarks, writeBurns, writeMedium}
 
 -- where a write is accepted, its entry is blank
 target-blank : (t : Table) (m : List ℕ) (id value i : ℕ) → firstOf (writeRows t m id value) ≡ 0 → i < 3

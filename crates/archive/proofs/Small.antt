@@ -10,25 +10,30 @@ use native.Mathlib.Omega.{arith}
 use lib.ListN.{length, length-append}
 use lib.Dec.{eqb}
 use borrow.Author.Tests.{not-false}
-use Rattle.placement.specs.Below.{nth}
-use Rattle.placement.proofs.Tests.{byBool}
-use Rattle.placement.proofs.Below.{countBelow-le}
+use Rattle.lists.specs.Below.{nth}
+use Rattle.lists.proofs.Tests.{byBool}
+use Rattle.lists.proofs.Below.{countBelow-le}
 use Rattle.medium.specs.Word.{tagOf}
 use Rattle.medium.specs.Entry.{valueAt}
 use Rattle.medium.specs.Burn.{marksOn, marksOver}
 use Rattle.table.specs.declared.Table.{Table}
 use Rattle.table.specs.Sound.{usedOf, sound}
 use Rattle.table.proofs.Soundness.{sound-facts}
-use Rattle.archive.specs.Refusal.{Row, firstOf}
-use Rattle.archive.specs.declared.Reply.{Reply}
-use Rattle.archive.specs.Reply.{onServer, replyBy}
-use Rattle.archive.specs.Search.{Place, searchFor}
-use Rattle.archive.specs.Calls.{addServerRows, addServerReply, reweightRows, reweightReply, target, writeRows, writeMarks, writeReply, deleteRows, deleteMarks, deleteReply, lookupRows, metReply, lookupReply}
-use Rattle.archive.specs.Opened.{opens}
-use Rattle.archive.proofs.Refusals.{settle-either, passed}
-use Rattle.archive.proofs.Accepted.{addServer-accepted, reweight-accepted, write-accepted, lookup-accepted}
-use Rattle.archive.proofs.Invalidating.{length-marksOn}
-use Rattle.archive.proofs.Searches.{opened-are}
+use Rattle.replies.specs.Refusal.{Row, firstOf}
+use Rattle.replies.specs.declared.Reply.{Reply}
+use Rattle.replies.specs.Reply.{onServer, replyBy}
+use Rattle.replies.proofs.Refusals.{settle-either, passed}
+use Rattle.lookup.specs.Search.{Place, searchFor}
+use Rattle.lookup.specs.Lookup.{lookupRows, metReply, lookupReply}
+use Rattle.lookup.specs.Opened.{opens}
+use Rattle.lookup.proofs.Passed.{lookup-accepted}
+use Rattle.lookup.proofs.Searches.{opened-are}
+use Rattle.invalidation.proofs.Invalidating.{length-marksOn}
+use Rattle.deletion.specs.Deletion.{deleteRows, deleteMarks, deleteReply}
+use Rattle.writing.specs.Writing.{target, writeRows, writeMarks, writeReply}
+use Rattle.writing.proofs.Accepted.{write-accepted}
+use Rattle.servers.specs.Servers.{addServerRows, addServerReply, reweightRows, reweightReply}
+use Rattle.servers.proofs.Accepted.{addServer-accepted, reweight-accepted}
 
 pub record Small (r : Reply) : Type 0 where
   pub server : r .server < 4294967296

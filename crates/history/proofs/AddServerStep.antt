@@ -10,10 +10,10 @@ use native.Mathlib.Nat.{add-zero}
 use lib.ListN.{length}
 use lib.Dec.{ltb, eqb}
 use borrow.Author.Tests.{ltb-false, eqb-true, eqb-false}
+use Rattle.lists.specs.Below.{nth}
+use Rattle.lists.proofs.Tests.{byBool}
 use Rattle.placement.specs.declared.Fraction.{Fraction}
-use Rattle.placement.specs.Below.{nth}
 use Rattle.placement.specs.Rule.{writeP}
-use Rattle.placement.proofs.Tests.{byBool}
 use Rattle.placement.proofs.Rules.{writeP-cong, readable-cong}
 use Rattle.medium.specs.Word.{blank}
 use Rattle.medium.specs.Entry.{serverAt, entryAt, bears, blankRun}
@@ -24,11 +24,11 @@ use Rattle.table.specs.Sound.{weightOf, usedOf, readP}
 use Rattle.table.specs.Upkeep.{withServer}
 use Rattle.table.proofs.Upkeep.{ServerAdded, withServer-is}
 use Rattle.table.proofs.Soundness.{sound-facts, withServer-arrays, withServer-sound}
-use Rattle.archive.specs.Refusal.{firstOf}
-use Rattle.archive.specs.Calls.{addServerRows, addServerReply, addServerTable}
+use Rattle.replies.specs.Refusal.{firstOf}
+use Rattle.replies.proofs.Refusals.{passed, settle-yes, settle-no}
+use Rattle.servers.specs.Servers.{addServerRows, addServerReply, addServerTable}
 use Rattle.history.specs.Call.{addServer, compared}
 use Rattle.history.specs.Ledger.{Event, Ledger, told, usedBy, standing, range, put, addServerRowsL, withServerL, enter}
-use Rattle.archive.proofs.Refusals.{passed, settle-yes, settle-no}
 use Rattle.history.proofs.Tops.{top-wider}
 use Rattle.history.proofs.Events.{placeOf}
 use Rattle.history.proofs.Holds.{Holds}

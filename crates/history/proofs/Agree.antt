@@ -11,26 +11,27 @@ use native.Mathlib.Omega.{arith}
 use lib.ListN.{length}
 use lib.Dec.{ltb, eqb}
 use borrow.Author.Tests.{eqb-true, eqb-false, eq-eqb, ne-eqb}
+use Rattle.lists.proofs.Tests.{byBool}
 use Rattle.placement.specs.Draw.{modulus, drawOf}
 use Rattle.placement.specs.Rule.{pick, writeServer, readable}
-use Rattle.placement.proofs.Tests.{byBool}
 use Rattle.placement.proofs.Rules.{pick-cong, readable-cong}
 use Rattle.medium.specs.Entry.{serverAt, bears, live}
 use Rattle.medium.specs.Burn.{marksOver}
 use Rattle.medium.proofs.Entries.{live-i, live-used, live-bears}
 use Rattle.medium.proofs.Marks.{marksOver-cong}
 use Rattle.table.specs.declared.Table.{Table}
-use Rattle.table.specs.Sound.{weightOf, usedOf, readP, sound}
+use Rattle.table.specs.Sound.{weightOf, usedOf, readP, sound, reads}
 use Rattle.table.proofs.Soundness.{Arrays}
-use Rattle.archive.specs.Refusal.{Row, firstOf}
-use Rattle.archive.specs.declared.Reply.{Reply}
-use Rattle.archive.specs.Reply.{refused, replyBy}
-use Rattle.archive.specs.Search.{Place, reads, searchFor}
-use Rattle.archive.specs.Calls.{short, target}
+use Rattle.replies.specs.Refusal.{Row, firstOf}
+use Rattle.replies.specs.declared.Reply.{Reply}
+use Rattle.replies.specs.Reply.{refused, replyBy}
+use Rattle.replies.proofs.Refusals.{settle-yes, settle-no}
+use Rattle.lookup.specs.Search.{Place, searchFor}
+use Rattle.lookup.specs.Lookup.{short}
+use Rattle.lookup.proofs.Searches.{met-some, met-none}
+use Rattle.writing.specs.Writing.{target}
 use Rattle.history.specs.Call.{compared}
 use Rattle.history.specs.Ledger.{Ledger, Entered, enterBy, put, usedBy, standing, range, shortL, targetL}
-use Rattle.archive.proofs.Searches.{met-some, met-none}
-use Rattle.archive.proofs.Refusals.{settle-yes, settle-no}
 use Rattle.history.proofs.Tops.{TopAt, top-same}
 use Rattle.history.proofs.Events.{placeOf}
 use Rattle.history.proofs.Entering.{entered}

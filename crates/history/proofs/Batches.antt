@@ -6,14 +6,14 @@ use mathlib.Core.Bool.{Bool, false, _&&_}
 use mathlib.Core.List.{List}
 use mathlib.Core.Option.{Option, none, some}
 use lib.Dec.{leb}
-use Rattle.placement.specs.Below.{nth}
+use Rattle.lists.specs.Below.{nth}
 use Rattle.table.specs.declared.Table.{Table}
-use Rattle.archive.specs.Opened.{lowest, opens}
-use Rattle.archive.specs.Calls.{lookupRows}
-use Rattle.archive.specs.Batch.{lookupOpens, openedAt, batchReply}
-use Rattle.archive.proofs.Refusals.{settle-both}
-use Rattle.archive.proofs.Accepted.{in-range}
-use Rattle.archive.proofs.Orders.{batch-cong}
+use Rattle.replies.proofs.Refusals.{settle-both}
+use Rattle.lookup.specs.Opened.{lowest, opens}
+use Rattle.lookup.specs.Lookup.{lookupRows}
+use Rattle.lookup.proofs.Passed.{in-range}
+use Rattle.batch.specs.Batch.{lookupOpens, openedAt, batchReply}
+use Rattle.batch.proofs.Orders.{batch-cong}
 use Rattle.history.specs.Call.{Compared, compared}
 use Rattle.history.specs.Ledger.{Ledger, Standing, standing, lookupRowsL, enter, standsFrom, opensL, openedAtL, batchL}
 use Rattle.history.proofs.Events.{placeOf}

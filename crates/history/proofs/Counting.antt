@@ -6,9 +6,9 @@ use mathlib.Core.List.{List, [], _∷_}
 use native.Mathlib.Omega.{arith}
 use lib.Dec.{eqb}
 use borrow.Author.Tests.{eqb-true, ne-eqb}
-use Rattle.placement.specs.Below.{countBelow, total}
-use Rattle.placement.proofs.Tests.{byBool}
-use Rattle.placement.proofs.Below.{total-cong, countBelow-le, total-mono}
+use Rattle.lists.specs.Below.{countBelow, total}
+use Rattle.lists.proofs.Tests.{byBool}
+use Rattle.lists.proofs.Below.{total-cong, countBelow-le, total-mono}
 use Rattle.table.specs.Sound.{usedOf}
 use Rattle.history.specs.Machine.{State, liveForItsId, liveEntries}
 use Rattle.history.specs.Ledger.{Event, wrote, deleted, Ledger, usedBy, writes}

@@ -6,19 +6,20 @@ use mathlib.Core.List.{List}
 use mathlib.Core.Option.{Option, none, some}
 use lib.Dec.{leb, eqb}
 use borrow.Author.Tests.{leb-false}
+use Rattle.lists.proofs.Tests.{byBool}
 use Rattle.placement.specs.Rule.{readable}
-use Rattle.placement.proofs.Tests.{byBool}
 use Rattle.medium.specs.Word.{deleted as deletedMark}
 use Rattle.medium.specs.Burn.{burnAll, invalidations}
 use Rattle.medium.proofs.Burns.{length-burnAll}
 use Rattle.table.specs.declared.Table.{Table}
-use Rattle.archive.specs.Refusal.{firstOf}
-use Rattle.archive.specs.Search.{reads, searchFor}
-use Rattle.archive.specs.Calls.{isMet, deleteRows, deleteMarks, deleteReply, deleteMedium}
+use Rattle.table.specs.Sound.{reads}
+use Rattle.replies.specs.Refusal.{firstOf}
+use Rattle.replies.proofs.Refusals.{settle-yes, settle-no}
+use Rattle.lookup.specs.Search.{searchFor}
+use Rattle.lookup.proofs.Passed.{in-range}
+use Rattle.deletion.specs.Deletion.{isMet, deleteRows, deleteMarks, deleteReply, deleteMedium}
 use Rattle.history.specs.Call.{delete, compared}
 use Rattle.history.specs.Ledger.{deleted, Ledger, Standing, usedBy, standing, isStanding, range, withEvent, deleteRowsL, enter}
-use Rattle.archive.proofs.Refusals.{settle-yes, settle-no}
-use Rattle.archive.proofs.Accepted.{in-range}
 use Rattle.history.proofs.Events.{placeOf}
 use Rattle.history.proofs.Deleting.{afterDelete, delete-holds}
 use Rattle.history.proofs.Agree.{Agree, Step, settled, same-short, same-reads, same-marks, same-met}

@@ -8,9 +8,9 @@ use mathlib.Core.List.{List, _∷_}
 use native.Mathlib.Omega.{arith}
 use lib.Dec.{eqb}
 use borrow.Author.Tests.{eqb-true, eqb-false}
+use Rattle.lists.proofs.Tests.{byBool, iff-eq, except}
 use Rattle.placement.specs.declared.Fraction.{Fraction}
 use Rattle.placement.specs.Rule.{readable}
-use Rattle.placement.proofs.Tests.{byBool, iff-eq, except}
 use Rattle.medium.specs.Word.{deleted as deletedMark}
 use Rattle.medium.specs.Entry.{bears}
 use Rattle.medium.specs.Burn.{burnAll, marksOver, invalidations}

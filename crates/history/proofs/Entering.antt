@@ -4,8 +4,8 @@ use mathlib.Core.Path.{_≡_}
 use mathlib.Core.List.{List}
 use lib.Dec.{eqb}
 use borrow.Author.Tests.{eqb-true, eqb-false}
-use Rattle.placement.proofs.Tests.{byBool}
-use Rattle.archive.specs.Refusal.{Row, firstOf, settle}
+use Rattle.lists.proofs.Tests.{byBool}
+use Rattle.replies.specs.Refusal.{Row, firstOf, settle}
 use Rattle.history.specs.Ledger.{Ledger, Entered, told, enterBy}
 
 pub entered : (P : Entered → Type 0) (L : Ledger) (rows : List Row) (done : Entered)

@@ -10,10 +10,10 @@ use native.Mathlib.Nat.{add-zero}
 use lib.ListN.{length}
 use lib.Dec.{ltb, eqb}
 use borrow.Author.Tests.{ltb-true, ltb-false, eqb-true, eqb-false}
+use Rattle.lists.specs.Below.{nth}
+use Rattle.lists.proofs.Tests.{byBool}
 use Rattle.placement.specs.declared.Fraction.{Fraction}
-use Rattle.placement.specs.Below.{nth}
 use Rattle.placement.specs.Rule.{readable}
-use Rattle.placement.proofs.Tests.{byBool}
 use Rattle.medium.specs.Word.{idWord, valueWord, blank}
 use Rattle.medium.specs.Entry.{serverAt, entryAt, valueAt, bears}
 use Rattle.medium.proofs.Entries.{bears-id}

@@ -1,22 +1,20 @@
-pub mod Tops
-pub mod Events
-pub mod Entering
-pub mod Holds
-pub mod Marking
-pub mod Deleting
-pub mod Writing
-pub mod Agree
-pub mod LookupStep
-pub mod ReweightStep
-pub mod AddServerStep
-pub mod DeleteStep
-pub mod WriteStep
-pub mod Run
-pub mod Never
-pub mod Counting
-pub mod Unaltered
+mod Tops
+mod Events
+mod Entering
+mod Holds
+mod Marking
+mod Deleting
+mod Writing
+mod Agree
+mod LookupStep
+mod ReweightStep
+mod AddServerStep
+mod DeleteStep
+mod WriteStep
 mod Batches
+pub mod Run
+mod Never
+mod Counting
+pub mod Unaltered
 pub mod Theorem
 pub mod LiveRule
-pub mod Replaying
-pub mod Lent

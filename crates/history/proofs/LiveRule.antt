@@ -7,21 +7,23 @@ use mathlib.Core.List.{List, [], _∷_}
 use native.Mathlib.Omega.{arith}
 use lib.Dec.{leb, ltb, eqb}
 use borrow.Author.Tests.{lt-ltb, le-ltb, leb-true, leb-false}
+use Rattle.lists.proofs.Tests.{byBool}
 use Rattle.placement.specs.declared.Fraction.{Fraction}
-use Rattle.placement.proofs.Tests.{byBool}
 use Rattle.medium.specs.Word.{deleted as deletedMark}
 use Rattle.medium.specs.Entry.{bears, live}
 use Rattle.medium.specs.Burn.{burnAll, invalidations}
 use Rattle.table.specs.declared.Table.{Table}
 use Rattle.table.specs.Sound.{usedOf}
-use Rattle.archive.specs.Refusal.{Row, firstOf, settle}
-use Rattle.archive.specs.Calls.{startRows, target, writeRows, writeBurns, writeMedium, deleteRows, deleteMarks, deleteMedium}
+use Rattle.replies.specs.Refusal.{Row, firstOf, settle}
+use Rattle.replies.proofs.Refusals.{settle-yes, settle-no}
+use Rattle.deletion.specs.Deletion.{deleteRows, deleteMarks, deleteMedium}
+use Rattle.writing.specs.Writing.{target, writeRows, writeBurns, writeMedium}
+use Rattle.servers.specs.Servers.{startRows}
 use Rattle.history.specs.Call.{Call, addServer, reweight, write, delete, lookup, batch}
 use Rattle.history.specs.Machine.{State, next, after, begin}
 use Rattle.history.specs.Ledger.{Event, wrote, deleted, Ledger, Entered, enterBy, opening, usedBy, range, addServerRowsL, withServerL, reweightRowsL, withWeightL, withEvent, writeRowsL, deleteRowsL, lookupRowsL, enter, ledgerAfter}
 use Rattle.history.specs.Demand3.{stateThen, ledgerThen}
 use Rattle.history.specs.LiveRule.{stays, LiveRule}
-use Rattle.archive.proofs.Refusals.{settle-yes, settle-no}
 use Rattle.history.proofs.Events.{EachWrite, each-none, each-wrote, each-deleted, used-write}
 use Rattle.history.proofs.Entering.{entered}
 use Rattle.history.proofs.Holds.{Holds, write-there}

@@ -9,22 +9,23 @@ use native.Mathlib.Omega.{arith}
 use lib.ListN.{length}
 use lib.Dec.{leb, eqb}
 use borrow.Author.Tests.{lt-leb, le-ltb, ne-eqb}
-use Rattle.placement.specs.Below.{countBelow}
+use Rattle.lists.specs.Below.{countBelow}
+use Rattle.lists.proofs.Below.{countBelow-cong}
 use Rattle.placement.specs.Rule.{readable}
-use Rattle.placement.proofs.Below.{countBelow-cong}
 use Rattle.medium.specs.Word.{tagOf, contentOf, valueWord}
 use Rattle.medium.specs.Entry.{serverAt}
 use Rattle.table.specs.declared.Table.{Table}
-use Rattle.archive.specs.Refusal.{firstOf}
-use Rattle.archive.specs.Reply.{refused, replyBy}
-use Rattle.archive.specs.Search.{Place, reads, searchFor}
-use Rattle.archive.specs.Calls.{short, lookupRows, metReply, lookupReply}
-use Rattle.archive.specs.Opened.{lowest, opens}
+use Rattle.table.specs.Sound.{reads}
+use Rattle.replies.specs.Refusal.{firstOf}
+use Rattle.replies.specs.Reply.{refused, replyBy}
+use Rattle.replies.proofs.Refusals.{settle-yes}
+use Rattle.lookup.specs.Search.{Place, searchFor}
+use Rattle.lookup.specs.Lookup.{short, lookupRows, metReply, lookupReply}
+use Rattle.lookup.specs.Opened.{lowest, opens}
+use Rattle.lookup.proofs.Searches.{opened-are}
+use Rattle.lookup.proofs.Passed.{in-range}
 use Rattle.history.specs.Call.{lookup, compared}
 use Rattle.history.specs.Ledger.{Ledger, Standing, standing, range, lookupRowsL, openedFrom, standingReply, enter}
-use Rattle.archive.proofs.Searches.{opened-are}
-use Rattle.archive.proofs.Refusals.{settle-yes}
-use Rattle.archive.proofs.Accepted.{in-range}
 use Rattle.history.proofs.Events.{placeOf, stands-came}
 use Rattle.history.proofs.Holds.{Written}
 use Rattle.history.proofs.Agree.{Agree, Step, settled, same-short, same-reads, same-met}

@@ -8,8 +8,8 @@ use mathlib.Core.List.{List}
 use native.Mathlib.Omega.{arith}
 use native.Mathlib.Nat.{add-zero}
 use lib.ListN.{length}
+use Rattle.lists.specs.Below.{nth}
 use Rattle.placement.specs.declared.Fraction.{Fraction}
-use Rattle.placement.specs.Below.{nth}
 use Rattle.medium.specs.Entry.{serverAt, entryAt, markAt, bears, live}
 use Rattle.medium.specs.Burn.{burnAll, marksOver, invalidations}
 use Rattle.medium.proofs.Places.{entry-in, entry-apart}

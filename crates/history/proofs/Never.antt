@@ -9,9 +9,9 @@ use mathlib.Core.Option.{Option, none, some}
 use lib.ListN.{length}
 use lib.Dec.{ltb, eqb}
 use borrow.Author.Tests.{not-true, eqb-false}
-use Rattle.placement.proofs.Tests.{byBool, and-l, and-r}
-use Rattle.archive.specs.Refusal.{Row, firstOf, settle}
-use Rattle.archive.specs.Batch.{batchBy, batchRows, settledBatch}
+use Rattle.lists.proofs.Tests.{byBool, and-l, and-r}
+use Rattle.replies.specs.Refusal.{Row, firstOf, settle}
+use Rattle.batch.specs.Batch.{batchBy, batchRows, settledBatch}
 use Rattle.history.specs.Call.{Call, addServer, reweight, write, delete, lookup, batch, Compared}
 use Rattle.history.specs.Ledger.{Ledger, Standing, Entered, standing, enterBy, addServerRowsL, reweightRowsL, writeRowsL, deleteRowsL, lookupRowsL, standingReply, batchL, enter, ledgerReplies}
 use Rattle.history.proofs.Entering.{entered}

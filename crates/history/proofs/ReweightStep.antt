@@ -7,11 +7,11 @@ use mathlib.Core.List.{List}
 use native.Mathlib.Omega.{arith}
 use lib.Dec.{leb, ltb}
 use borrow.Author.Tests.{leb-false, ltb-false}
+use Rattle.lists.proofs.Tests.{byBool}
 use Rattle.placement.specs.declared.Fraction.{Fraction}
 use Rattle.placement.specs.Draw.{modulus, drawOf}
 use Rattle.placement.specs.Fraction.{raise}
 use Rattle.placement.specs.Rule.{writeP, takes, readable}
-use Rattle.placement.proofs.Tests.{byBool}
 use Rattle.placement.proofs.Fractions.{exceeds-grows, raise-old}
 use Rattle.placement.proofs.Rules.{writeP-cong}
 use Rattle.table.specs.declared.Table.{Table}
@@ -19,11 +19,11 @@ use Rattle.table.specs.Sound.{weightOf, readP, sound}
 use Rattle.table.specs.Upkeep.{withWeight}
 use Rattle.table.proofs.Upkeep.{WeightChanged, withWeight-is}
 use Rattle.table.proofs.Soundness.{sound-facts, withWeight-arrays, withWeight-sound}
-use Rattle.archive.specs.Refusal.{firstOf}
-use Rattle.archive.specs.Calls.{reweightRows, reweightReply, reweightTable}
+use Rattle.replies.specs.Refusal.{firstOf}
+use Rattle.replies.proofs.Refusals.{passed, settle-yes, settle-no}
+use Rattle.servers.specs.Servers.{reweightRows, reweightReply, reweightTable}
 use Rattle.history.specs.Call.{reweight, compared}
 use Rattle.history.specs.Ledger.{Ledger, put, reweightRowsL, withWeightL, enter}
-use Rattle.archive.proofs.Refusals.{passed, settle-yes, settle-no}
 use Rattle.history.proofs.Holds.{Holds}
 use Rattle.history.proofs.Agree.{Agree, put-is, Step, settled}
 

@@ -8,18 +8,18 @@ use native.Mathlib.Omega.{arith}
 use lib.ListN.{length-replicate, getD-replicate}
 use lib.Dec.{leb}
 use borrow.Author.Tests.{leb-true, not-false}
-use Rattle.placement.proofs.Tests.{and-l, and-r}
+use Rattle.lists.proofs.Tests.{and-l, and-r}
 use Rattle.medium.specs.Word.{blank}
-use Rattle.table.specs.Upkeep.{empty}
 use Rattle.medium.proofs.Places.{server-zero}
+use Rattle.table.specs.Upkeep.{empty}
 use Rattle.table.proofs.Soundness.{empty-arrays, empty-sound}
-use Rattle.archive.specs.Refusal.{firstOf}
-use Rattle.archive.specs.declared.Batch.{Batch}
-use Rattle.archive.specs.Calls.{startRows, startTable}
+use Rattle.replies.specs.Refusal.{firstOf}
+use Rattle.replies.proofs.Refusals.{passed, settle-yes}
+use Rattle.servers.specs.Servers.{startRows, startTable}
+use Rattle.batch.specs.declared.Batch.{Batch}
 use Rattle.history.specs.Call.{Call, addServer, reweight, write, delete, lookup, batch, Compared, compared}
 use Rattle.history.specs.Machine.{State, inBrief, reply, next, after, replies, begin}
 use Rattle.history.specs.Ledger.{Ledger, opening, usedBy, standing, enter, ledgerAfter, ledgerReplies}
-use Rattle.archive.proofs.Refusals.{passed, settle-yes}
 use Rattle.history.proofs.Tops.{TopAt}
 use Rattle.history.proofs.Events.{placeOf, each-none}
 use Rattle.history.proofs.Agree.{Agree, Step}

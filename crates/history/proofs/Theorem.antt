@@ -6,10 +6,11 @@ use mathlib.Core.Logic.{_↔_}
 use mathlib.Core.List.{List, _∷_, _++_, Memᴰ·map}
 use mathlib.Core.Option.{Option, none, some}
 use native.Mathlib.Omega.{arith}
-use Rattle.placement.specs.Below.{nth}
-use Rattle.archive.specs.Refusal.{firstOf}
-use Rattle.archive.specs.declared.Reply.{Reply}
-use Rattle.archive.specs.Calls.{startRows, lookupReply}
+use Rattle.lists.specs.Below.{nth}
+use Rattle.replies.specs.Refusal.{firstOf}
+use Rattle.replies.specs.declared.Reply.{Reply}
+use Rattle.lookup.specs.Lookup.{lookupReply}
+use Rattle.servers.specs.Servers.{startRows}
 use Rattle.history.specs.Call.{Call, Compared, compared}
 use Rattle.history.specs.Machine.{State, begin}
 use Rattle.history.specs.Ledger.{Event, wrote, Ledger, Standing, opening, usedBy, standing, range, standingReply}

@@ -4,11 +4,11 @@ use Prim.Native.Nat.{ℕ}
 use mathlib.Core.Path.{_≡_, refl, sym, _∙_}
 use mathlib.Core.Logic.{_≢_}
 use mathlib.Core.List.{List, [], _∷_, _++_}
-use Rattle.placement.specs.Below.{nth}
+use Rattle.lists.specs.Below.{nth}
 use Rattle.medium.specs.Word.{blank}
+use Rattle.archive.proofs.Once.{write-once, delete-once}
 use Rattle.history.specs.Call.{Call, addServer, reweight, write, delete, lookup, batch}
 use Rattle.history.specs.Machine.{State, next, after}
-use Rattle.archive.proofs.Once.{write-once, delete-once}
 
 next-once : (S : State) (c : Call) (a : ℕ) → nth (S .medium) a ≢ blank → nth (next S c .medium) a ≡ nth (S .medium) a
 unfolding next

@@ -7,9 +7,9 @@ use mathlib.Core.List.{List, _∷_}
 use native.Mathlib.Omega.{arith}
 use lib.Dec.{leb, eqb}
 use borrow.Author.Tests.{leb-false, eqb-true, eqb-false}
+use Rattle.lists.proofs.Tests.{byBool, true-not-false}
 use Rattle.placement.specs.Draw.{modulus, drawOf}
 use Rattle.placement.specs.Rule.{writeP, takes, readable}
-use Rattle.placement.proofs.Tests.{byBool, true-not-false}
 use Rattle.placement.proofs.Fractions.{exceeds-grows}
 use Rattle.placement.proofs.Rules.{writeServer-is}
 use Rattle.medium.specs.Word.{contentRange, replaced}
@@ -18,16 +18,16 @@ use Rattle.medium.specs.Burn.{burnAll, invalidations}
 use Rattle.medium.proofs.Entries.{blank-run}
 use Rattle.medium.proofs.Burns.{length-burnAll}
 use Rattle.table.specs.declared.Table.{Table}
-use Rattle.table.specs.Sound.{weightOf, usedOf, readP}
+use Rattle.table.specs.Sound.{weightOf, usedOf, readP, reads}
 use Rattle.table.specs.Upkeep.{withEntry}
 use Rattle.table.proofs.Upkeep.{EntryAdded, withEntry-is}
 use Rattle.table.proofs.Soundness.{sound-facts, withEntry-arrays, withEntry-sound}
-use Rattle.archive.specs.Refusal.{firstOf}
-use Rattle.archive.specs.Search.{reads}
-use Rattle.archive.specs.Calls.{short, target, writeRows, writeMarks, writeBurns, writeReply, writeTable, writeMedium}
+use Rattle.replies.specs.Refusal.{firstOf}
+use Rattle.replies.proofs.Refusals.{passed, settle-yes, settle-no}
+use Rattle.lookup.specs.Lookup.{short}
+use Rattle.writing.specs.Writing.{target, writeRows, writeMarks, writeBurns, writeReply, writeTable, writeMedium}
 use Rattle.history.specs.Call.{write, compared}
 use Rattle.history.specs.Ledger.{wrote, Ledger, told, usedBy, range, withEvent, writeRowsL, enter}
-use Rattle.archive.proofs.Refusals.{passed, settle-yes, settle-no}
 use Rattle.history.proofs.Events.{used-self, used-other}
 use Rattle.history.proofs.Writing.{withWords, afterWrite, Accepted, write-holds}
 use Rattle.history.proofs.Agree.{Agree, Step, settled, same-short, same-target, same-reads, same-marks}

@@ -11,10 +11,10 @@ use lib.ListN.{length, set, length-set}
 use lib.Seq.{getD-set-same, getD-set-other}
 use lib.Dec.{leb, eqb}
 use borrow.Author.Tests.{leb-false, eqb-true, eqb-false, eq-eqb}
+use Rattle.lists.specs.Below.{nth}
+use Rattle.lists.proofs.Tests.{byBool, true-not-false, and-l, and-r, and-i, iff-eq, except}
 use Rattle.placement.specs.declared.Fraction.{Fraction}
-use Rattle.placement.specs.Below.{nth}
 use Rattle.placement.specs.Rule.{readable}
-use Rattle.placement.proofs.Tests.{byBool, true-not-false, and-l, and-r, and-i, iff-eq, except}
 use Rattle.medium.specs.Word.{idWord, valueWord, replaced, blank}
 use Rattle.medium.specs.Entry.{entryAt, valueAt, markAt, bears}
 use Rattle.medium.specs.Burn.{burnAll, marksOver, invalidations}

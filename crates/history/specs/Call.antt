@@ -1,7 +1,7 @@
 -- The calls of a list, and what is compared of their replies.
 use Prim.Native.Nat.{ℕ}
 use mathlib.Core.List.{List}
-use Rattle.archive.specs.declared.Reply.{Reply}
+use Rattle.replies.specs.declared.Reply.{Reply}
 
 -- the calls with their arguments; start is none of them
 pub data Call : Type 0 where

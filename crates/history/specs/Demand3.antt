@@ -6,12 +6,12 @@ use mathlib.Core.Logic.{_↔_, _≢_}
 use mathlib.Core.List.{List, [], _∷_, _++_, List·Memᴰ, map}
 use lib.ListN.{length}
 use lib.Dec.{eqb}
-use Rattle.placement.specs.Below.{nth}
+use Rattle.lists.specs.Below.{nth}
 use Rattle.medium.specs.Word.{idWord, valueWord, blank}
 use Rattle.medium.specs.Entry.{entryAt, valueAt}
-use Rattle.archive.specs.declared.Reply.{Reply}
-use Rattle.archive.specs.Calls.{lookupReply}
-use Rattle.archive.specs.Batch.{batchReply}
+use Rattle.replies.specs.declared.Reply.{Reply}
+use Rattle.lookup.specs.Lookup.{lookupReply}
+use Rattle.batch.specs.Batch.{batchReply}
 use Rattle.history.specs.Call.{Call, batch, compared}
 use Rattle.history.specs.Machine.{State, after, replies, begin, liveEntries}
 use Rattle.history.specs.Ledger.{Event, wrote, deleted, Ledger, opening, usedBy, writes, range, batchL, ledgerAfter, ledgerReplies}

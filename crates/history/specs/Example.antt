@@ -1,7 +1,7 @@
 -- Document 01's worked example, computed over the definitions: the ledger's replies, the archive's, and words 24 to 26.
 use mathlib.Core.Path.{_≡_, refl}
 use mathlib.Core.List.{List, [], _∷_, map}
-use Rattle.placement.specs.Below.{nth, allBelow, highest, orZero, upward, countBelow, total, setBelow}
+use Rattle.lists.specs.Below.{nth, allBelow, highest, orZero, upward, countBelow, total, setBelow}
 use Rattle.placement.specs.Draw.{stepOf, nonzero, seedOf, xorLeft, xorRight, roundOf, drawOf}
 use Rattle.placement.specs.Fraction.{exceeds, atLeast, raise}
 use Rattle.placement.specs.Rule.{shareOf, writeP, takes, pick, writeServer, readable}
@@ -9,11 +9,14 @@ use Rattle.medium.specs.Entry.{serverAt, entryAt, bearsAt, live, blankRun}
 use Rattle.medium.specs.Burn.{burnAll, marksOn, marksOver, invalidations}
 use Rattle.table.specs.Sound.{readSound, serverSound, sound}
 use Rattle.table.specs.Upkeep.{withServer, withWeight, withEntry}
-use Rattle.archive.specs.Refusal.{firstOf, settle}
-use Rattle.archive.specs.declared.Reply.{Reply}
-use Rattle.archive.specs.Reply.{refused, onServer, found, replyBy}
-use Rattle.archive.specs.Search.{lastLive, opening, searchBelow, searchFor}
-use Rattle.archive.specs.Calls.{startRows, startTable, addServerRows, addServerReply, addServerTable, reweightRows, reweightReply, reweightTable, short, target, writeRows, writeMarks, writeBurns, writeReply, writeTable, writeMedium, isMet, deleteRows, deleteMarks, deleteReply, deleteMedium, lookupRows, metReply, lookupReply}
+use Rattle.replies.specs.Refusal.{firstOf, settle}
+use Rattle.replies.specs.declared.Reply.{Reply}
+use Rattle.replies.specs.Reply.{refused, onServer, found, replyBy}
+use Rattle.lookup.specs.Search.{lastLive, opening, searchBelow, searchFor}
+use Rattle.lookup.specs.Lookup.{short, lookupRows, metReply, lookupReply}
+use Rattle.deletion.specs.Deletion.{isMet, deleteRows, deleteMarks, deleteReply, deleteMedium}
+use Rattle.writing.specs.Writing.{target, writeRows, writeMarks, writeBurns, writeReply, writeTable, writeMedium}
+use Rattle.servers.specs.Servers.{startRows, startTable, addServerRows, addServerReply, addServerTable, reweightRows, reweightReply, reweightTable}
 use Rattle.history.specs.Call.{Call, addServer, reweight, write, delete, lookup, compared}
 use Rattle.history.specs.Machine.{reply, next, after, replies, begin}
 use Rattle.history.specs.Ledger.{opening as ledgerOpening, usedBy, standing, isStanding, enterBy, put, addServerRowsL, withServerL, reweightRowsL, withWeightL, shortL, withEvent, targetL, writeRowsL, deleteRowsL, lookupRowsL, openedFrom, standingReply, enter, ledgerReplies}

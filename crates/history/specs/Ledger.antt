@@ -7,13 +7,13 @@ use mathlib.Core.List.{List, [], _∷_}
 use mathlib.Core.Option.{Option, none, some}
 use lib.ListN.{length}
 use lib.Dec.{leb, ltb, eqb}
+use Rattle.lists.specs.Below.{nth, countBelow}
 use Rattle.placement.specs.declared.Fraction.{Fraction}
-use Rattle.placement.specs.Below.{nth, countBelow}
 use Rattle.placement.specs.Fraction.{raise}
 use Rattle.placement.specs.Rule.{writeP, writeServer, readable}
-use Rattle.archive.specs.Refusal.{Row, _when_, firstOf, settle}
-use Rattle.archive.specs.declared.Batch.{Batch}
-use Rattle.archive.specs.Batch.{batchBy, settledBatch}
+use Rattle.replies.specs.Refusal.{Row, _when_, firstOf, settle}
+use Rattle.batch.specs.declared.Batch.{Batch}
+use Rattle.batch.specs.Batch.{batchBy, settledBatch}
 use Rattle.history.specs.Call.{Call, addServer, reweight, write, delete, lookup, batch, Compared}
 
 -- an accepted write (id, value, server) or an accepted delete

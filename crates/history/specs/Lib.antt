@@ -3,6 +3,4 @@ pub mod Machine
 pub mod Ledger
 pub mod Demand3
 pub mod LiveRule
-pub mod Replay
-pub mod Lent
 pub mod Example

@@ -4,16 +4,19 @@ use mathlib.Core.List.{List, [], _∷_}
 use mathlib.Core.Bool.{Bool, _&&_}
 use lib.ListN.{replicate}
 use lib.Dec.{ltb}
-use Rattle.placement.specs.Below.{nth, countBelow, total}
+use Rattle.lists.specs.Below.{nth, countBelow, total}
 use Rattle.medium.specs.Word.{contentRange, blank}
 use Rattle.medium.specs.Entry.{entryAt, live}
 use Rattle.table.specs.declared.Table.{Table}
 use Rattle.table.specs.Sound.{usedOf}
-use Rattle.archive.specs.declared.Reply.{Reply}
-use Rattle.archive.specs.declared.Batch.{Batch}
-use Rattle.archive.specs.Reply.{refused}
-use Rattle.archive.specs.Calls.{startTable, addServerReply, addServerTable, reweightReply, reweightTable, writeReply, writeTable, writeMedium, deleteReply, deleteMedium, lookupReply}
-use Rattle.archive.specs.Batch.{batchReply}
+use Rattle.replies.specs.declared.Reply.{Reply}
+use Rattle.replies.specs.Reply.{refused}
+use Rattle.lookup.specs.Lookup.{lookupReply}
+use Rattle.deletion.specs.Deletion.{deleteReply, deleteMedium}
+use Rattle.writing.specs.Writing.{writeReply, writeTable, writeMedium}
+use Rattle.servers.specs.Servers.{startTable, addServerReply, addServerTable, reweightReply, reweightTable}
+use Rattle.batch.specs.declared.Batch.{Batch}
+use Rattle.batch.specs.Batch.{batchReply}
 use Rattle.history.specs.Call.{Call, addServer, reweight, write, delete, lookup, batch}
 
 pub record State : Type 0 where

@@ -9,8 +9,8 @@ use lib.ListN.{length, set, length-set}
 use lib.Seq.{getD-set-same, getD-set-other}
 use lib.Dec.{eqb}
 use borrow.Author.Tests.{eqb-true, eqb-false}
-use Rattle.placement.specs.Below.{nth}
-use Rattle.placement.proofs.Tests.{byBool}
+use Rattle.lists.specs.Below.{nth}
+use Rattle.lists.proofs.Tests.{byBool}
 use Rattle.medium.specs.Word.{markWord}
 use Rattle.medium.specs.Burn.{Burn, burnAll, invalidations}
 

@@ -6,9 +6,9 @@ use mathlib.Core.Bool.{Bool, true, false}
 use mathlib.Core.List.{List}
 use lib.Dec.{ltb, eqb}
 use borrow.Author.Tests.{ltb-true, lt-ltb, eqb-true, eq-eqb, ne-eqb}
-use Rattle.placement.specs.Below.{nth}
-use Rattle.placement.proofs.Tests.{and-l, and-r, and-i}
-use Rattle.placement.proofs.Below.{allBelow-in, allBelow-out, allBelow-not, allBelow-more}
+use Rattle.lists.specs.Below.{nth}
+use Rattle.lists.proofs.Tests.{and-l, and-r, and-i}
+use Rattle.lists.proofs.Below.{allBelow-in, allBelow-out, allBelow-not, allBelow-more}
 use Rattle.medium.specs.Word.{idWord, blank}
 use Rattle.medium.specs.Entry.{entryAt, markAt, bearsAt, bears, live, blankRun}
 

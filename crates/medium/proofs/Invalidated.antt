@@ -7,8 +7,8 @@ use mathlib.Core.List.{List, [], _∷_, _++_, map, map-append, append-nil, Mem�
 use native.Mathlib.Nat.{add-zero}
 use native.Mathlib.Omega.{arith}
 use lib.ListN.{length, set, length-set, length-append}
-use Rattle.placement.specs.Below.{nth, upward}
-use Rattle.placement.proofs.Below.{upward-out, upward-more}
+use Rattle.lists.specs.Below.{nth, upward}
+use Rattle.lists.proofs.Below.{upward-out, upward-more}
 use Rattle.medium.specs.Word.{markWord}
 use Rattle.medium.specs.Entry.{entryAt, markAt, bears, live}
 use Rattle.medium.specs.Burn.{burnAll, marksOn, invalidations}

@@ -8,9 +8,9 @@ use mathlib.Core.List.{List, [], Memᴰ·map, Memᴰ·of-map, List·Memᴰ, List
 use native.Mathlib.Omega.{arith}
 use lib.Dec.{eqb}
 use borrow.Author.Tests.{eqb-true, eqb-false}
-use Rattle.placement.specs.Below.{nth, upward}
-use Rattle.placement.proofs.Tests.{byBool}
-use Rattle.placement.proofs.Below.{upward-in, upward-out, upward-cong}
+use Rattle.lists.specs.Below.{nth, upward}
+use Rattle.lists.proofs.Tests.{byBool}
+use Rattle.lists.proofs.Below.{upward-in, upward-out, upward-cong}
 use Rattle.medium.specs.Word.{blank}
 use Rattle.medium.specs.Entry.{markAt, live}
 use Rattle.medium.specs.Burn.{marksOn, marksOver}

@@ -8,7 +8,7 @@ use native.Mathlib.Nat.{mul-le-mul, mul-le-mul-left}
 use lib.ListN.{length}
 use lib.Dec.{ltb}
 use borrow.Author.Tests.{ltb-true, ltb-false}
-use Rattle.placement.proofs.Tests.{byBool}
+use Rattle.lists.proofs.Tests.{byBool}
 use Rattle.medium.specs.Entry.{serverAt, entryAt, Inside}
 
 pub server-le : (capacity k n : ℕ) → k ≤ n → serverAt capacity k ≤ serverAt capacity n

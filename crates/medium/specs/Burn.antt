@@ -3,7 +3,7 @@ use Prim.Native.Nat.{ℕ, zero, suc}
 use mathlib.Core.Bool.{Bool, cond}
 use mathlib.Core.List.{List, [], _∷_, _++_, map}
 use lib.ListN.{set}
-use Rattle.placement.specs.Below.{upward}
+use Rattle.lists.specs.Below.{upward}
 use Rattle.medium.specs.Word.{markWord}
 use Rattle.medium.specs.Entry.{markAt, live}
 

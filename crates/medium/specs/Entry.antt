@@ -4,7 +4,7 @@ use mathlib.Core.Bool.{Bool, _&&_}
 use mathlib.Core.List.{List}
 use lib.ListN.{length}
 use lib.Dec.{ltb, eqb}
-use Rattle.placement.specs.Below.{nth, allBelow}
+use Rattle.lists.specs.Below.{nth, allBelow}
 use Rattle.medium.specs.Word.{idWord, blank}
 
 -- server k has the words from here up to those of server k + 1

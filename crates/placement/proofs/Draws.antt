@@ -5,8 +5,8 @@ use native.Mathlib.Omega.{arith}
 use native.Mathlib.Nat.{div-le-self}
 use lib.Dec.{eqb}
 use lib.Bits.{xor-lt}
+use Rattle.lists.proofs.Tests.{byBool}
 use Rattle.placement.specs.Draw.{modulus, stepOf, nonzero, seedOf, xorLeft, xorRight, roundOf, drawOf}
-use Rattle.placement.proofs.Tests.{byBool}
 
 left< : (n s : ℕ) → s < modulus → xorLeft n s < modulus
 unfolding xorLeft

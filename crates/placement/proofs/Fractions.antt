@@ -6,9 +6,9 @@ use mathlib.Core.Bool.{true, false}
 use native.Mathlib.Omega.{arith}
 use native.Mathlib.Nat.{mul-le-mul-right, mul-lt-mul-of-pos-right, lt-of-mul-lt-mul-right}
 use borrow.Author.Tests.{ltb-true, lt-ltb, le-ltb, leb-true, leb-false, le-leb}
+use Rattle.lists.proofs.Tests.{byBool}
 use Rattle.placement.specs.declared.Fraction.{Fraction}
 use Rattle.placement.specs.Fraction.{exceeds, atLeast, raise}
-use Rattle.placement.proofs.Tests.{byBool}
 
 pub fraction-eq : (p q : Fraction) → p .num ≡ q .num → p .den ≡ q .den → p ≡ q
 fraction-eq p q a b = λ i. record { num = a i; den = b i }

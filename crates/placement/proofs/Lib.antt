@@ -1,6 +1,4 @@
-pub mod Tests
-pub mod Below
-pub mod Product
+mod Product
 pub mod Draws
 pub mod Fractions
 pub mod Rules

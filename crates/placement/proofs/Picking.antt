@@ -1,37 +1,22 @@
--- Laws of words copied into an array, and of the write servers over weights so copied.
+-- Laws of the write servers over weights that were copied into an array.
 -- Assumes nothing.
-use Prim.Native.Nat.{ℕ, suc, _+_, _-_, _<_, min}
-use mathlib.Core.Path.{_≡_, refl, sym, ap, _∙_}
+use Prim.Native.Nat.{ℕ, _<_, min}
+use mathlib.Core.Path.{_≡_, refl, _∙_}
 use mathlib.Core.Bool.{true, false}
-use mathlib.Core.List.{List, _++_}
-use native.Mathlib.Numerals.{add-one}
+use mathlib.Core.List.{List}
 use native.Mathlib.Omega.{arith}
-use lib.ListN.{length, take, drop, set, replicate, length-drop, List·getD-append}
-use lib.Seq.{length-take-le, take-length, take-suc, append-snoc, set-at, getD-drop}
+use lib.ListN.{length, List·getD-append}
+use lib.Seq.{take-length}
 use lib.Dec.{leb}
 use borrow.Author.Tests.{leb-true}
-use Rattle.placement.specs.Below.{nth, setBelow}
+use Rattle.lists.specs.Below.{nth, setBelow}
+use Rattle.lists.specs.Array.{arrayAt}
+use Rattle.lists.proofs.Tests.{and-l, and-r}
+use Rattle.lists.proofs.Below.{allBelow-out, highest-le}
 use Rattle.placement.specs.Draw.{modulus, drawOf}
 use Rattle.placement.specs.Rule.{writeP, takes, pick, writeServer, Bounded}
-use Rattle.placement.specs.Picks.{light, bounded, picksOf, arrayAt}
-use Rattle.placement.proofs.Tests.{and-l, and-r}
-use Rattle.placement.proofs.Below.{allBelow-out, highest-le}
+use Rattle.placement.specs.Picks.{light, bounded, picksOf}
 use Rattle.placement.proofs.Rules.{pick-cong}
-
--- none yet, and one word more
-pub arrayAt-none : (words : List ℕ) (from : ℕ) → replicate 256 0 ≡ arrayAt words from 0
-unfolding arrayAt
-arrayAt-none words from = refl
-
-pub arrayAt-more : (words : List ℕ) (from i : ℕ) → i < 256 → from + i < length words → set (arrayAt words from i) i (nth words (from + i)) ≡ arrayAt words from (i + 1)
-unfolding arrayAt
-arrayAt-more words from i few inside =
-    let run : List ℕ = drop from words in
-    let left : 256 - i ≡ suc (256 - (i + 1)) = omega arith in
-    let here : i < length run = simp length-drop (omega arith) in
-    let there : nth words (from + i) ≡ nth run i = sym (getD-drop from words i 0) in
-    rw (left, there, set-at (take i run) 0 (replicate (256 - (i + 1)) 0) (nth run i) i (length-take-le i run (omega arith)))
-    (sym (ap (λ (l : List ℕ). l ++ replicate (256 - (i + 1)) 0) (ap (λ (n : ℕ). take n run) (add-one i) ∙ take-suc run i 0 here) ∙ append-snoc (take i run) (nth run i) _))
 
 -- a weight as copied
 copied : (ws : List ℕ) (k : ℕ) → k < length ws → nth (arrayAt ws 0 (length ws)) k ≡ nth ws k

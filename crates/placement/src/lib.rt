@@ -1,13 +1,13 @@
 // The published method on plain numbers: the draw of an id on a server, the comparison of a fraction with a draw,
 // WriteP, and the write servers of ids. No table and no medium.
 ghost use mathlib.Core.Path.{_≡_};
-ghost use Prim.Native.Nat.{_<_, _≤_, _+_, min};
+ghost use Prim.Native.Nat.{_<_};
 ghost use lib.ListN.{length};
+ghost use Rattle.lists.specs.Below.{nth, total, setBelow};
 ghost use Rattle.placement.specs.Draw.{modulus, stepOf, seedOf, roundOf, drawOf};
 ghost use Rattle.placement.specs.Fraction.{exceeds, atLeast};
-ghost use Rattle.placement.specs.Below.{nth, total, setBelow};
 ghost use Rattle.placement.specs.Rule.{shareOf, writeServer, Bounded};
-ghost use Rattle.placement.specs.Picks.{bounded, picksOf, arrayAt};
+ghost use Rattle.placement.specs.Picks.{bounded, picksOf};
 
 // A fraction as document 01 keeps it: a pair, not reduced.
 pub struct Fraction {
@@ -120,28 +120,6 @@ pub fn write_server(weights: &[u32; 256], count: usize, id: u32) -> usize
     0
 }
 
-// The `n` words of a slice from a position on, as an array whose other words are 0.
-pub fn array_at(words: &[u32], from: usize, n: usize) -> [u32; 256]
-    requires { ⌜ n ≤ 256 ⌝ }
-    requires { ⌜ from + n ≤ length (now words) ⌝ }
-    ensures { λ r. ⌜ r ≡ arrayAt (now (words .entry)) from n ⌝ }
-{
-    let mut array: [u32; 256] = [0; 256];
-    let mut i: usize = 0;
-    while i < n {
-        array[i] = words[from + i];
-        i += 1;
-    }
-    array
-}
-
-// The lesser of two numbers.
-pub fn lesser(a: usize, b: usize) -> usize
-    ensures { λ r. ⌜ r ≡ min a b ⌝ }
-{
-    if a < b { a } else { b }
-}
-
 // Whether there are at most 256 weights, each of at most 65,536.
 fn are_bounded(weights: &[u32]) -> bool
     ensures { λ r. ⌜ r ≡ bounded (now (weights .entry)) ⌝ }
@@ -170,8 +148,8 @@ pub extern "C" fn picks(weights: &[u32], ids: &[u32], servers: &mut [u32]) -> us
         return 0;
     }
     let count = weights.len();
-    let array = array_at(weights, 0, count);
-    let n = lesser(ids.len(), servers.len());
+    let array = lists::array_at(weights, 0, count);
+    let n = lists::lesser(ids.len(), servers.len());
     let mut i: usize = 0;
     while i < n {
         servers[i] = write_server(&array, count, ids[i]) as u32;

@@ -6,14 +6,14 @@ use mathlib.Core.List.{List, [], _∷_, _++_}
 use mathlib.Core.Option.{none}
 use lib.ListN.{length}
 use lib.Dec.{ltb, eqb}
-use Rattle.placement.proofs.Tests.{byBool}
-use Rattle.archive.specs.Refusal.{firstOf, settle}
-use Rattle.archive.specs.Calls.{startRows}
-use Rattle.sheet.specs.declared.Line.{Line}
-use Rattle.sheet.specs.declared.Line.the-variants as line
-use Rattle.sheet.specs.Line.{lineOf, linesOf}
-use Rattle.sheet.specs.Print.{question}
-use Rattle.sheet.specs.Sheet.{Sheet, started, called, lineRun, run, outputOf}
+use Rattle.lists.proofs.Tests.{byBool}
+use Rattle.replies.specs.Refusal.{firstOf, settle}
+use Rattle.servers.specs.Servers.{startRows}
+use Rattle.text.specs.declared.Line.{Line}
+use Rattle.text.specs.declared.Line.the-variants as line
+use Rattle.text.specs.Line.{lineOf}
+use Rattle.text.specs.Print.{question}
+use Rattle.sheet.specs.Sheet.{linesOf, Sheet, started, called, lineRun, run, outputOf}
 
 abbrev fresh : List ℕ → Sheet
 fresh m = record { table = none; medium = m }

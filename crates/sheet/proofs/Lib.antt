@@ -1,5 +1,3 @@
-mod Reading
-mod Printing
 mod Running
 pub mod Sheets
 pub mod Alike

@@ -10,21 +10,21 @@ use native.Mathlib.Numerals.{add-one}
 use native.Mathlib.Omega.{arith}
 use lib.ListN.{length, set, replicate}
 use lib.Seq.{sets}
-use Rattle.placement.specs.Below.{setBelow}
-use Rattle.placement.proofs.Below.{length-setBelow, setBelow-at, replicate-all}
+use Rattle.lists.specs.Below.{setBelow}
+use Rattle.lists.proofs.Below.{length-setBelow, setBelow-at, replicate-all}
 use Rattle.medium.specs.Word.{blank}
 use Rattle.table.specs.declared.Table.{Table}
-use Rattle.archive.specs.Refusal.{firstOf}
-use Rattle.archive.specs.declared.Reply.{Reply}
-use Rattle.archive.specs.Calls.{startRows, startReply, startTable}
-use Rattle.archive.proofs.Refusals.{settle-yes, settle-no}
+use Rattle.replies.specs.Refusal.{firstOf}
+use Rattle.replies.specs.declared.Reply.{Reply}
+use Rattle.replies.proofs.Refusals.{settle-yes, settle-no}
+use Rattle.servers.specs.Servers.{startRows, startReply, startTable}
 use Rattle.history.specs.Machine.{State}
-use Rattle.history.specs.Replay.{callOf, replyTo, nextBy}
-use Rattle.history.proofs.Replaying.{start-number}
+use Rattle.replay.specs.Replay.{callOf, replyTo, nextBy}
+use Rattle.replay.proofs.Replaying.{start-number}
+use Rattle.text.specs.declared.Line.{Line}
+use Rattle.text.specs.declared.Line.the-variants as line
+use Rattle.text.specs.Print.{printed, question, answered}
 use Rattle.sheet.specs.declared.InUse.{InUse}
-use Rattle.sheet.specs.declared.Line.{Line}
-use Rattle.sheet.specs.declared.Line.the-variants as line
-use Rattle.sheet.specs.Print.{printed, question, answered}
 use Rattle.sheet.specs.Sheet.{Sheet, Done, sheetOf, started, called, lineRun}
 
 -- the first i words blank, the others as lent

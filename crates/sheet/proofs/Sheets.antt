@@ -10,18 +10,18 @@ use lib.ListN.{length, take, drop, length-append, length-drop, drop-of-length-le
 use lib.Seq.{sets, drop-cons, drop-drop}
 use lib.Dec.{ltb, eqb}
 use borrow.Author.Tests.{lt-ltb, le-ltb, ltb-true}
-use Rattle.placement.specs.Below.{nth}
-use Rattle.placement.proofs.Below.{sets-append}
-use Rattle.placement.proofs.Tests.{byBool}
+use Rattle.lists.specs.Below.{nth}
+use Rattle.lists.proofs.Below.{sets-append}
+use Rattle.lists.proofs.Tests.{byBool}
 use Rattle.table.specs.declared.Table.{Table}
-use Rattle.archive.specs.declared.Reply.{Reply}
+use Rattle.replies.specs.declared.Reply.{Reply}
+use Rattle.text.specs.declared.Line.{Line}
+use Rattle.text.specs.declared.Line.the-variants as line
+use Rattle.text.specs.Line.{lineOf, endBelow, endOf}
+use Rattle.text.specs.Print.{printed, question, answered}
+use Rattle.text.proofs.Printing.{decimal-short, length-line}
 use Rattle.sheet.specs.declared.InUse.{InUse}
-use Rattle.sheet.specs.declared.Line.{Line}
-use Rattle.sheet.specs.declared.Line.the-variants as line
-use Rattle.sheet.specs.Line.{lineOf, endBelow, endOf, longer, linesOf}
-use Rattle.sheet.specs.Print.{printed, question, answered}
-use Rattle.sheet.specs.Sheet.{Sheet, Done, sheetOf, started, called, lineRun, run, outputOf}
-use Rattle.sheet.proofs.Printing.{decimal-short, length-line}
+use Rattle.sheet.specs.Sheet.{longer, linesOf, Sheet, Done, sheetOf, started, called, lineRun, run, outputOf}
 
 -- at most 35 bytes a line
 short : (letter refusal a b : ℕ) → length (printed letter refusal a b) ≤ 35

@@ -3,7 +3,7 @@ use Prim.Native.Nat.{ℕ}
 use mathlib.Core.Path.{_≡_, refl}
 use mathlib.Core.List.{List, [], _∷_}
 use lib.ListN.{replicate}
-use Rattle.placement.specs.Below.{allBelow, highest, orZero, upward, countBelow, total, setBelow}
+use Rattle.lists.specs.Below.{allBelow, highest, orZero, upward, countBelow, total, setBelow}
 use Rattle.placement.specs.Draw.{stepOf, nonzero, seedOf, xorLeft, xorRight, roundOf, drawOf}
 use Rattle.placement.specs.Fraction.{exceeds, atLeast, raise}
 use Rattle.placement.specs.Rule.{shareOf, writeP, takes, pick, writeServer, readable}
@@ -11,15 +11,18 @@ use Rattle.medium.specs.Entry.{serverAt, entryAt, bearsAt, live, blankRun}
 use Rattle.medium.specs.Burn.{burnAll, marksOn, marksOver, invalidations}
 use Rattle.table.specs.Sound.{readSound, serverSound, sound}
 use Rattle.table.specs.Upkeep.{withServer, withWeight, withEntry}
-use Rattle.archive.specs.Refusal.{firstOf, settle}
-use Rattle.archive.specs.Reply.{replyBy}
-use Rattle.archive.specs.Search.{lastLive, opening, searchBelow, searchFor}
-use Rattle.archive.specs.Calls.{startRows, startReply, startTable, addServerRows, addServerReply, addServerTable, reweightRows, reweightReply, reweightTable, short, target, writeRows, writeMarks, writeBurns, writeReply, writeTable, writeMedium, isMet, deleteRows, deleteMarks, deleteReply, deleteMedium, lookupRows, metReply, lookupReply}
+use Rattle.replies.specs.Refusal.{firstOf, settle}
+use Rattle.replies.specs.Reply.{replyBy}
+use Rattle.lookup.specs.Search.{lastLive, opening, searchBelow, searchFor}
+use Rattle.lookup.specs.Lookup.{short, lookupRows, metReply, lookupReply}
+use Rattle.deletion.specs.Deletion.{isMet, deleteRows, deleteMarks, deleteReply, deleteMedium}
+use Rattle.writing.specs.Writing.{target, writeRows, writeMarks, writeBurns, writeReply, writeTable, writeMedium}
+use Rattle.servers.specs.Servers.{startRows, startReply, startTable, addServerRows, addServerReply, addServerTable, reweightRows, reweightReply, reweightTable}
 use Rattle.history.specs.Machine.{reply, next}
-use Rattle.history.specs.Replay.{callOf, replyTo, nextBy}
-use Rattle.sheet.specs.Line.{isDigit, digitRun, valueOf, numberAt, spaced, lineBy, hasTwo, last, first, lineOf, longer, linesOf}
-use Rattle.sheet.specs.Print.{digits, decimal, printed, question, answered}
-use Rattle.sheet.specs.Sheet.{started, called, lineRun, run, outputOf}
+use Rattle.replay.specs.Replay.{callOf, replyTo, nextBy}
+use Rattle.text.specs.Line.{isDigit, digitRun, valueOf, numberAt, spaced, lineBy, hasTwo, last, first, lineOf}
+use Rattle.text.specs.Print.{digits, decimal, printed, question, answered}
+use Rattle.sheet.specs.Sheet.{longer, linesOf, started, called, lineRun, run, outputOf}
 
 -- a line each, LF at its end
 pub input : List ℕ

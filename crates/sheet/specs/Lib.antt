@@ -1,4 +1,2 @@
-pub mod Line
-pub mod Print
 pub mod Sheet
 pub mod Example

@@ -4,18 +4,27 @@ use mathlib.Core.Bool.{cond}
 use mathlib.Core.List.{List, [], _∷_, _++_}
 use mathlib.Core.Option.{Option, none, some}
 use lib.ListN.{length, replicate}
-use lib.Dec.{ltb}
+use lib.Dec.{ltb, eqb}
 use Rattle.medium.specs.Word.{blank}
 use Rattle.table.specs.declared.Table.{Table}
-use Rattle.archive.specs.Refusal.{settle}
-use Rattle.archive.specs.Calls.{startRows, startReply, startTable}
+use Rattle.replies.specs.Refusal.{settle}
+use Rattle.servers.specs.Servers.{startRows, startReply, startTable}
 use Rattle.history.specs.Machine.{State}
-use Rattle.history.specs.Replay.{callOf, replyTo, nextBy}
+use Rattle.replay.specs.Replay.{callOf, replyTo, nextBy}
+use Rattle.text.specs.declared.Line.{Line}
+use Rattle.text.specs.declared.Line.the-variants as line
+use Rattle.text.specs.Line.{lineOf}
+use Rattle.text.specs.Print.{printed, question, answered}
 use Rattle.sheet.specs.declared.InUse.{InUse}
-use Rattle.sheet.specs.declared.Line.{Line}
-use Rattle.sheet.specs.declared.Line.the-variants as line
-use Rattle.sheet.specs.Line.{lineOf, linesOf}
-use Rattle.sheet.specs.Print.{printed, question, answered}
+
+-- the lines of an input: each LF ends one, and bytes after the last LF are a line too
+unfoldable pub longer : ℕ → List (List ℕ) → List (List ℕ)
+longer b [] = (b ∷ []) ∷ []
+longer b (l ∷ rest) = (b ∷ l) ∷ rest
+
+unfoldable pub linesOf : List ℕ → List (List ℕ)
+linesOf [] = []
+linesOf (b ∷ rest) = cond (eqb b 10) ([] ∷ linesOf rest) (longer b (linesOf rest))
 
 -- the table in use, none before the first accepted S, and the medium
 pub record Sheet : Type 0 where

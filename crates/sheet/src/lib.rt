@@ -1,7 +1,5 @@
-// The text of daysheet: lines read, calls run, answers printed, over slices alone.
+// A whole sheet: lines read, calls run, answers printed, over slices alone.
 mod lines;
-mod print;
-mod read;
 
 ghost use mathlib.Core.Path.{_≡_};
 ghost use Prim.Native.Nat.{_*_, _≤_};
@@ -9,19 +7,6 @@ ghost use lib.ListN.{length};
 ghost use lib.Seq.{sets};
 ghost use Rattle.sheet.specs.Sheet.{outputOf};
 use table::Table;
-
-// A number and the position after it, or nothing that reads as one.
-pub enum Parsed {
-    Number(u32, usize),
-    Nothing,
-}
-
-// What a line asks for: a start; a call with its numbers, 1 to 5 as history's run_call has them; or a line that can't be read so.
-pub enum Line {
-    Start(u32),
-    Call(u32, u32, u32),
-    Unreadable,
-}
 
 // The table in use, once a start was accepted; before that the table counts for nothing.
 pub struct InUse {
@@ -43,7 +28,7 @@ pub fn run(input: &[u8], medium: &mut [u32], out: &mut [u8]) -> usize
     ensures words { λ _. ⌜ now (medium .exit) ≡ outputOf (now (input .entry)) (now (medium .entry)) .sheet .medium ⌝ }
 {
     if input.len() > 65536 {
-        return print::put_question(out, 0);
+        return text::put_question(out, 0);
     }
     let mut in_use = InUse {
         started: false,
@@ -52,7 +37,7 @@ pub fn run(input: &[u8], medium: &mut [u32], out: &mut [u8]) -> usize
     let mut from: usize = 0;
     let mut at: usize = 0;
     while from < input.len() {
-        let end = read::line_end(input, from);
+        let end = text::line_end(input, from);
         let ran = lines::run_line(in_use, medium, &input[from..end], out, at);
         in_use = ran.in_use;
         at = ran.next;

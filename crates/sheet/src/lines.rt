@@ -4,16 +4,14 @@ ghost use Prim.Native.Nat.{_+_, _≤_};
 ghost use lib.ListN.{length, replicate};
 ghost use lib.Seq.{sets};
 ghost use Rattle.medium.specs.Word.{blank};
-ghost use Rattle.sheet.specs.declared.Line.the-variants as line;
-ghost use Rattle.sheet.specs.Line.{lineBy, hasTwo, lineOf};
-ghost use Rattle.sheet.specs.Print.{question};
+ghost use Rattle.text.specs.declared.Line.the-variants as line;
+ghost use Rattle.text.specs.Line.{lineOf};
+ghost use Rattle.text.specs.Print.{question};
 ghost use Rattle.sheet.specs.Sheet.{sheetOf, lineRun};
 use crate::InUse;
-use crate::Line;
-use crate::Parsed;
 use crate::Ran;
-use crate::print;
-use crate::read;
+use text::Line;
+use text::Parsed;
 
 // Makes every word blank.
 fn blank_all(words: &mut [u32])
@@ -33,7 +31,7 @@ fn ask(in_use: InUse, out: &mut [u8], at: usize) -> Ran
     ensures bytes { λ _. ⌜ now (out .exit) ≡ sets (now (out .entry)) at question ⌝ }
     ensures kept { λ r. ⌜ r .in_use ≡ in_use ⌝ }
 {
-    let next = print::put_question(out, at);
+    let next = text::put_question(out, at);
     Ran { next, in_use }
 }
 
@@ -44,10 +42,10 @@ fn run_start(in_use: InUse, medium: &mut [u32], capacity: u32, out: &mut [u8], a
     ensures bytes { λ _. ⌜ now (out .exit) ≡ sets (now (out .entry)) at (lineRun (sheetOf in_use (now (medium .entry))) (line.Start capacity) .bytes) ⌝ }
     ensures sheet { λ r. ⌜ sheetOf (r .in_use) (now (medium .exit)) ≡ lineRun (sheetOf in_use (now (medium .entry))) (line.Start capacity) .sheet ⌝ }
 {
-    let begun = archive::start(capacity);
+    let begun = servers::start(capacity);
     let answer = begun.answer;
-    let reply = archive::start_reply(answer);
-    let next = print::put_answer(out, at, 83, reply.refusal, 0, 0);
+    let reply = replies::start_reply(answer);
+    let next = text::put_answer(out, at, 83, reply.refusal, 0, 0);
     if reply.refusal != 0 {
         return Ran { next, in_use };
     }
@@ -62,7 +60,7 @@ fn run_start(in_use: InUse, medium: &mut [u32], capacity: u32, out: &mut [u8], a
     }
 }
 
-// A call of history's number; before the first accepted S it is not run.
+// A call of replay's number; before the first accepted S it is not run.
 fn run_call(
     in_use: InUse,
     medium: &mut [u32],
@@ -81,8 +79,8 @@ fn run_call(
         return ask(in_use, out, at);
     }
     let table = in_use.table;
-    let ran = history::run_call(table, medium, number, first, second);
-    let next = print::put_reply(out, at, number, ran.reply);
+    let ran = replay::run_call(table, medium, number, first, second);
+    let next = text::put_reply(out, at, number, ran.reply);
     let after = ran.table;
     Ran {
         next,
@@ -90,31 +88,6 @@ fn run_call(
             started: true,
             table: after,
         },
-    }
-}
-
-// The line of a letter and its numbers.
-fn line_by(letter: u8, first: u32, second: u32) -> Line
-    ensures { λ r. ⌜ r ≡ lineBy letter first second ⌝ }
-{
-    match letter {
-        83 => Line::Start(first),
-        70 => Line::Call(1, first, second),
-        71 => Line::Call(2, first, second),
-        87 => Line::Call(3, first, second),
-        68 => Line::Call(4, first, second),
-        76 => Line::Call(5, first, second),
-        _ => Line::Unreadable,
-    }
-}
-
-// Whether a line of this letter has a second number: G and W do.
-fn has_two(letter: u8) -> bool
-    ensures { λ r. ⌜ r ≡ hasTwo letter ⌝ }
-{
-    match letter {
-        71 | 87 => true,
-        _ => false,
     }
 }
 
@@ -147,15 +120,15 @@ pub fn run_line(in_use: InUse, medium: &mut [u32], line: &[u8], out: &mut [u8], 
     ensures bytes { λ _. ⌜ now (out .exit) ≡ sets (now (out .entry)) at (lineRun (sheetOf in_use (now (medium .entry))) (lineOf (now (line .entry))) .bytes) ⌝ }
     ensures sheet { λ r. ⌜ sheetOf (r .in_use) (now (medium .exit)) ≡ lineRun (sheetOf in_use (now (medium .entry))) (lineOf (now (line .entry))) .sheet ⌝ }
 {
-    let one = read::number_after(line, 1);
+    let one = text::number_after(line, 1);
     let Parsed::Number(first, after_first) = one else {
         return ask(in_use, out, at);
     };
     let letter = line[0];
     let mut second: u32 = 0;
     let mut end = after_first;
-    if has_two(letter) {
-        let two = read::number_after(line, after_first);
+    if text::has_two(letter) {
+        let two = text::number_after(line, after_first);
         let Parsed::Number(number, after_second) = two else {
             return ask(in_use, out, at);
         };
@@ -165,5 +138,11 @@ pub fn run_line(in_use: InUse, medium: &mut [u32], line: &[u8], out: &mut [u8], 
     if end != line.len() {
         return ask(in_use, out, at);
     }
-    run_read(in_use, medium, line_by(letter, first, second), out, at)
+    run_read(
+        in_use,
+        medium,
+        text::line_by(letter, first, second),
+        out,
+        at,
+    )
 }

@@ -3,9 +3,9 @@
 use Prim.Native.Nat.{ℕ, suc, _≤_, _<_}
 use mathlib.Core.Path.{_≡_, sym, ap, ap₂, _∙_}
 use native.Mathlib.Omega.{arith}
+use Rattle.lists.proofs.Tests.{iff-eq, at-or-else}
 use Rattle.placement.specs.Fraction.{raise}
 use Rattle.placement.specs.Rule.{writeP}
-use Rattle.placement.proofs.Tests.{iff-eq, at-or-else}
 use Rattle.placement.proofs.Rules.{writeP-cong}
 use Rattle.table.specs.declared.Table.{Table}
 use Rattle.table.specs.Sound.{weightOf, usedOf, readP, sound}

@@ -1,4 +1,4 @@
 pub mod Upkeep
 pub mod Soundness
 pub mod Agreement
-pub mod Raising
+mod Raising

@@ -8,11 +8,11 @@ use native.Mathlib.Numerals.{add-one}
 use native.Mathlib.Omega.{arith}
 use lib.ListN.{set}
 use lib.Seq.{set-getD}
+use Rattle.lists.specs.Below.{nth, setBelow, total}
+use Rattle.lists.proofs.Below.{total-more, setBelow-above}
 use Rattle.placement.specs.declared.Fraction.{Fraction}
-use Rattle.placement.specs.Below.{nth, setBelow, total}
 use Rattle.placement.specs.Fraction.{atLeast, raise}
 use Rattle.placement.specs.Rule.{shareOf, writeP}
-use Rattle.placement.proofs.Below.{total-more, setBelow-above}
 use Rattle.placement.proofs.Fractions.{fraction-eq}
 use Rattle.table.specs.declared.Table.{Table}
 use Rattle.table.specs.Sound.{weightOf, readP}

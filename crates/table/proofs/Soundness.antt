@@ -5,12 +5,12 @@ use mathlib.Core.Path.{_≡_, ap, ap₂, _∙_}
 use mathlib.Core.Bool.{true, false}
 use native.Mathlib.Omega.{arith}
 use borrow.Author.Tests.{leb-true, le-leb}
+use Rattle.lists.specs.Below.{allBelow}
+use Rattle.lists.proofs.Tests.{byBool, true-not-false, and-l, and-r, and-i, at-or-else}
+use Rattle.lists.proofs.Below.{allBelow-in, allBelow-out}
 use Rattle.placement.specs.declared.Fraction.{Fraction}
-use Rattle.placement.specs.Below.{allBelow}
 use Rattle.placement.specs.Fraction.{atLeast, raise}
 use Rattle.placement.specs.Rule.{writeP, Bounded}
-use Rattle.placement.proofs.Tests.{byBool, true-not-false, and-l, and-r, and-i, at-or-else}
-use Rattle.placement.proofs.Below.{allBelow-in, allBelow-out}
 use Rattle.placement.proofs.Fractions.{atLeast-refl}
 use Rattle.placement.proofs.Rules.{writeP-proper, writeP-small, writeP-cong}
 use Rattle.table.specs.declared.Table.{Table}

@@ -7,9 +7,9 @@ use mathlib.Core.Bool.{true}
 use native.Mathlib.Omega.{arith}
 use lib.ListN.{length, length-set}
 use lib.Seq.{getD-set-same, getD-set-other}
+use Rattle.lists.proofs.Below.{length-setBelow, setBelow-at}
 use Rattle.placement.specs.Fraction.{atLeast, raise}
 use Rattle.placement.specs.Rule.{writeP}
-use Rattle.placement.proofs.Below.{length-setBelow, setBelow-at}
 use Rattle.placement.proofs.Fractions.{raise-old, fraction-eq}
 use Rattle.table.specs.declared.Table.{Table}
 use Rattle.table.specs.Sound.{weightOf, usedOf, readP}

@@ -5,10 +5,10 @@ use mathlib.Core.List.{List, []}
 use lib.ListN.{getD}
 use denote.Ref.{RefT}
 use lib.Dec.{leb}
+use Rattle.lists.specs.Below.{nth, allBelow}
 use Rattle.placement.specs.declared.Fraction.{Fraction}
-use Rattle.placement.specs.Below.{nth, allBelow}
 use Rattle.placement.specs.Fraction.{atLeast}
-use Rattle.placement.specs.Rule.{writeP}
+use Rattle.placement.specs.Rule.{writeP, readable}
 use Rattle.table.specs.declared.Table.{Table}
 use Rattle.table.specs.declared.Shape.{Shape}
 
@@ -36,6 +36,10 @@ usedOf t k = nth (t .used) k
 
 abbrev pub readP : Table → ℕ → Fraction
 readP t k = record { num = nth (t .numerators) k; den = nth (t .denominators) k }
+
+-- server k is read for an id: its ReadP exceeds its draw
+abbrev pub reads : Table → ℕ → ℕ → Bool
+reads t id k = readable (readP t) id k
 
 -- ReadP in range, and at least WriteP
 unfoldable pub readSound : Fraction → Fraction → Bool

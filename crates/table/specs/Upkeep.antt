@@ -1,7 +1,7 @@
 -- The tables that calls make of a table.
 use Prim.Native.Nat.{ℕ, suc}
 use lib.ListN.{set, replicate}
-use Rattle.placement.specs.Below.{nth, setBelow}
+use Rattle.lists.specs.Below.{nth, setBelow}
 use Rattle.placement.specs.Fraction.{raise}
 use Rattle.placement.specs.Rule.{writeP}
 use Rattle.table.specs.declared.Table.{Table}

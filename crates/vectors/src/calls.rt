@@ -3,41 +3,41 @@ use crate::print;
 use table::Table;
 
 pub fn start(capacity: u32) -> Table {
-    let started = archive::start(capacity);
+    let started = servers::start(capacity);
     started.table
 }
 
 pub fn add_server(table: Table, medium: &[u32], weight: u32, text: &[u8]) -> Table {
-    let placed = archive::add_server(table, medium, weight);
+    let placed = servers::add_server(table, medium, weight);
     let answer = placed.answer;
-    print::reply(text, archive::server_reply(answer));
+    print::reply(text, replies::server_reply(answer));
     placed.table
 }
 
 pub fn reweight(table: Table, server: usize, weight: u32, text: &[u8]) -> Table {
-    let placed = archive::reweight(table, server, weight);
+    let placed = servers::reweight(table, server, weight);
     let answer = placed.answer;
-    print::reply(text, archive::server_reply(answer));
+    print::reply(text, replies::server_reply(answer));
     placed.table
 }
 
 pub fn write(table: Table, medium: &mut [u32], id: u32, value: u32, text: &[u8]) -> Table {
-    let written = archive::write(table, medium, id, value);
+    let written = writing::write(table, medium, id, value);
     let answer = written.answer;
-    print::reply(text, archive::write_reply(answer));
+    print::reply(text, replies::write_reply(answer));
     written.table
 }
 
 pub fn delete(table: Table, medium: &mut [u32], id: u32, text: &[u8]) {
     print::reply(
         text,
-        archive::delete_reply(archive::delete(table, medium, id)),
+        replies::delete_reply(deletion::delete(table, medium, id)),
     );
 }
 
 pub fn lookup(table: Table, medium: &[u32], id: u32, text: &[u8]) {
     print::reply(
         text,
-        archive::lookup_reply(archive::lookup(table, medium, id)),
+        replies::lookup_reply(lookup::lookup(table, medium, id)),
     );
 }

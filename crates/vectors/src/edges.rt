@@ -5,7 +5,7 @@ use table::Table;
 // One server of this capacity and weight 1.
 fn one_server(capacity: u32, medium: &[u32]) -> Table {
     let empty = calls::start(capacity);
-    let placed = archive::add_server(empty, medium, 1);
+    let placed = servers::add_server(empty, medium, 1);
     placed.table
 }
 

@@ -24,8 +24,8 @@ pub fn example() {
 // Two servers of this capacity, of which the second has all the weight: every write goes there.
 fn all_on_the_second(capacity: u32, medium: &[u32]) -> Table {
     let empty = calls::start(capacity);
-    let first = archive::add_server(empty, medium, 0);
-    let second = archive::add_server(first.table, medium, 1);
+    let first = servers::add_server(empty, medium, 0);
+    let second = servers::add_server(first.table, medium, 1);
     second.table
 }
 

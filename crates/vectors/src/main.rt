@@ -7,7 +7,7 @@ mod edges;
 mod filings;
 mod payouts;
 mod print;
-mod servers;
+mod upkeep;
 
 fn main() {
     draws::steps();
@@ -16,10 +16,10 @@ fn main() {
     draws::picks();
     comparisons::exceeding();
     comparisons::at_least();
-    servers::starts();
-    servers::last_server();
-    servers::additions();
-    servers::weights();
+    upkeep::starts();
+    upkeep::last_server();
+    upkeep::additions();
+    upkeep::weights();
     edges::range();
     edges::full();
     edges::tables();

@@ -2,7 +2,7 @@
 // finding.
 use crate::calls;
 use crate::print;
-use archive::Batch;
+use batch::Batch;
 use table::Table;
 
 // Two servers of equal weight, of which the second is read for ids 3 and 5 and not for 2: 3 is filed there, 2 on the first.
@@ -72,27 +72,27 @@ pub fn batches() {
     calls::lookup(table, &medium, 3, b"lookup of 3: ");
     calls::lookup(table, &medium, 5, b"lookup of 5: ");
     let ids: [u32; 5] = [2, 1073741824, 3, 5, 3];
-    five(archive::lookup_batch(table, &medium, &ids));
+    five(batch::lookup_batch(table, &medium, &ids));
 }
 
 pub fn longest() {
     let medium: [u32; 3] = [4294967295; 3];
     let ids: [u32; 257] = [2; 257];
     let empty = calls::start(1);
-    let full = archive::lookup_batch(empty, &medium, &ids[..256]);
+    let full = batch::lookup_batch(empty, &medium, &ids[..256]);
     print::word(b"batch of 256 ids: ", full.refusal);
-    let over = archive::lookup_batch(empty, &medium, &ids);
+    let over = batch::lookup_batch(empty, &medium, &ids);
     print::word(b"batch of 257 ids: ", over.refusal);
 }
 
 pub fn refused_id_by_id() {
     let medium: [u32; 3] = [4294967295; 3];
     let ids: [u32; 2] = [2, 1073741824];
-    let unsound = archive::lookup_batch(calls::start(0), &medium, &ids);
+    let unsound = batch::lookup_batch(calls::start(0), &medium, &ids);
     print::word(b"batch on an unsound table: ", unsound.refusal);
     print::word(b"its answer to 2: ", unsound.refusals[0]);
     print::word(b"and to 2^30: ", unsound.refusals[1]);
-    let empty = archive::lookup_batch(calls::start(1), &medium, &ids);
+    let empty = batch::lookup_batch(calls::start(1), &medium, &ids);
     print::word(b"batch without a server: ", empty.refusal);
     print::word(b"its answer to 2: ", empty.refusals[0]);
     print::word(b"and to 2^30: ", empty.refusals[1]);

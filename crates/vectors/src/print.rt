@@ -1,5 +1,5 @@
 // Lines of output: a text, then a number, yes or no, or a reply in document 01's numbers.
-use archive::Reply;
+use replies::Reply;
 
 pub fn number(text: &[u8], n: u64) {
     io::write_all(1, text);

@@ -4,7 +4,7 @@ use mathlib.Core.Path.{_≡_, refl, sym}
 use mathlib.Core.Bool.{true}
 use native.Mathlib.Omega.{arith}
 use borrow.Author.Needs.{needs}
-use Rattle.placement.specs.Below.{allBelow}
+use Rattle.lists.specs.Below.{allBelow}
 use Rattle.medium.specs.Entry.{blankRun}
 use Rattle.medium.proofs.Entries.{blank-not, blank-more}
 use Rattle.medium.proofs.is_blank.Statement.{statement}

@@ -6,9 +6,9 @@ use native.Mathlib.Omega.{arith}
 use lib.ListN.{length}
 use borrow.Author.Needs.{needs}
 use borrow.Author.Tests.{le-leb, lt-leb}
-use Rattle.placement.specs.Below.{allBelow}
+use Rattle.lists.specs.Below.{allBelow}
+use Rattle.lists.proofs.Below.{allBelow-not, allBelow-more}
 use Rattle.placement.specs.Picks.{light, bounded}
-use Rattle.placement.proofs.Below.{allBelow-not, allBelow-more}
 use Rattle.placement.proofs.are_bounded.Statement.{statement}
 use Rattle.placement.proofs.are_bounded.Tie as tie
 

@@ -6,9 +6,9 @@ use native.Mathlib.Omega.{arith}
 use lib.ListN.{length, length-set}
 use borrow.Author.Needs.{needs}
 use borrow.Author.Tests.{not-true, not-false}
-use Rattle.placement.specs.Below.{setBelow}
+use Rattle.lists.specs.Below.{setBelow}
+use Rattle.lists.proofs.Below.{setBelow-more}
 use Rattle.placement.specs.Picks.{bounded}
-use Rattle.placement.proofs.Below.{setBelow-more}
 use Rattle.placement.proofs.Picking.{serverOf, bounded-copied, picked-copied, picked-small, none-picked, all-picked}
 use Rattle.placement.proofs.picks.Statement.{statement}
 use Rattle.placement.proofs.picks.Tie as tie

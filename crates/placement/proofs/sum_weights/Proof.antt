@@ -3,8 +3,8 @@ use Prim.Native.Nat.{_≤_, _*_, _-_}
 use mathlib.Core.Path.{_≡_, refl}
 use native.Mathlib.Omega.{arith}
 use borrow.Author.Needs.{needs}
-use Rattle.placement.specs.Below.{nth, total}
-use Rattle.placement.proofs.Below.{total-more}
+use Rattle.lists.specs.Below.{nth, total}
+use Rattle.lists.proofs.Below.{total-more}
 use Rattle.placement.proofs.sum_weights.Statement.{statement}
 use Rattle.placement.proofs.sum_weights.Tie as tie
 

@@ -5,10 +5,10 @@ use mathlib.Core.Bool.{Bool, true, false, cond}
 use mathlib.Core.Option.{some}
 use native.Mathlib.Omega.{arith}
 use borrow.Author.Needs.{needs}
-use Rattle.placement.specs.Below.{nth, highest, orZero, total}
+use Rattle.lists.specs.Below.{nth, highest, orZero, total}
+use Rattle.lists.proofs.Below.{total-last, highest-last}
 use Rattle.placement.specs.Draw.{modulus, drawOf}
 use Rattle.placement.specs.Rule.{writeP, takes, pick, writeServer}
-use Rattle.placement.proofs.Below.{total-last, highest-last}
 use Rattle.placement.proofs.Rules.{takes-last}
 use Rattle.placement.proofs.write_server.Statement.{statement}
 use Rattle.placement.proofs.write_server.Tie as tie

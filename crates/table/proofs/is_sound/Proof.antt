@@ -5,10 +5,10 @@ use mathlib.Core.Bool.{Bool, true, false}
 use native.Mathlib.Omega.{arith}
 use borrow.Author.Needs.{needs}
 use borrow.Author.Tests.{le-leb, lt-leb, not-true, not-false}
+use Rattle.lists.specs.Below.{allBelow, total}
+use Rattle.lists.proofs.Below.{total-more, allBelow-more}
 use Rattle.placement.specs.declared.Fraction.{Fraction}
-use Rattle.placement.specs.Below.{allBelow, total}
 use Rattle.placement.specs.Rule.{shareOf, writeP}
-use Rattle.placement.proofs.Below.{total-more, allBelow-more}
 use Rattle.table.specs.declared.Table.{Table}
 use Rattle.table.specs.Sound.{tableOf, weightOf, usedOf, readP, readSound, serverSound, sound}
 use Rattle.table.proofs.Soundness.{tested-sound, server-unsound}

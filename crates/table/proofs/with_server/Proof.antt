@@ -7,10 +7,10 @@ use lib.ListN.{length, set}
 use lib.Seq.{getD-set-same, getD-set-other}
 use mathlib.Core.List.{List}
 use borrow.Author.Needs.{needs}
+use Rattle.lists.specs.Below.{nth, total}
+use Rattle.lists.proofs.Below.{total-le, total-cong}
 use Rattle.placement.specs.declared.Fraction.{Fraction}
-use Rattle.placement.specs.Below.{nth, total}
 use Rattle.placement.specs.Rule.{shareOf, writeP}
-use Rattle.placement.proofs.Below.{total-le, total-cong}
 use Rattle.table.specs.declared.Table.{Table}
 use Rattle.table.specs.Sound.{weightOf}
 use Rattle.table.specs.Upkeep.{withServer}

@@ -7,7 +7,7 @@ use native.Mathlib.Omega.{arith}
 use lib.ListN.{set}
 use borrow.Author.Needs.{needs}
 use borrow.Author.Tests.{not-true, not-false}
-use Rattle.placement.specs.Below.{nth, total, setBelow}
+use Rattle.lists.specs.Below.{nth, total, setBelow}
 use Rattle.table.specs.declared.Table.{Table}
 use Rattle.table.specs.Sound.{weightOf}
 use Rattle.table.specs.Upkeep.{withWeight}

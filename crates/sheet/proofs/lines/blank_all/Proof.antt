@@ -1,4 +1,4 @@
--- `sheet::blank_all` meets its contract. The invariant: the words passed are blank, the others as lent.
+-- `sheet::lines::blank_all` meets its contract. The invariant: the words passed are blank, the others as lent.
 use Prim.Native.Nat.{_-_, _≤_}
 use mathlib.Core.Path.{_≡_, refl}
 use native.Mathlib.Omega.{arith}

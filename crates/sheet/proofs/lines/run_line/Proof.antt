@@ -1,11 +1,11 @@
--- `sheet::run_line` meets its contract: the numbers are read, one or two, or the line gets its question mark.
+-- `sheet::lines::run_line` meets its contract: the numbers are read, one or two, or the line gets its question mark.
 use mathlib.Core.Path.{_≡_, sym, ap, _∙_}
 use mathlib.Core.Logic.{⊎-elim}
 use mathlib.Core.Option.{some}
 use borrow.Author.Needs.{needs}
-use Rattle.sheet.specs.Line.{spaced, lineOf}
+use Rattle.text.specs.Line.{spaced, lineOf}
+use Rattle.text.proofs.Reading.{nothing-read, number-there, inside-line, no-first, no-second, wholeOf, with-second, without-second, more-after, none-after}
 use Rattle.sheet.specs.Sheet.{sheetOf, lineRun}
-use Rattle.sheet.proofs.Reading.{nothing-read, number-there, inside-line, no-first, no-second, wholeOf, with-second, without-second, more-after, none-after}
 use Rattle.sheet.proofs.Running.{shown, asked, not-read}
 use Rattle.sheet.proofs.lines.run_line.Statement.{statement}
 use Rattle.sheet.proofs.lines.run_line.Tie as tie

@@ -1,4 +1,4 @@
--- `sheet::run_read` meets its contract: an arm for each kind of line.
+-- `sheet::lines::run_read` meets its contract: an arm for each kind of line.
 use mathlib.Core.Path.{ap}
 use borrow.Author.Needs.{needs}
 use Rattle.sheet.specs.Sheet.{sheetOf, lineRun}

@@ -1,4 +1,4 @@
--- `sheet::run_start` meets its contract.
+-- `sheet::lines::run_start` meets its contract.
 use mathlib.Core.Path.{refl}
 use borrow.Author.Needs.{needs}
 use Rattle.sheet.specs.Sheet.{sheetOf}

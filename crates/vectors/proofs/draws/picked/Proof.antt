@@ -3,7 +3,7 @@ use Prim.Native.Nat.{ℕ, zero, suc, _≤_, _<_}
 use native.Mathlib.Omega.{arith}
 use lib.ListN.{set, replicate}
 use borrow.Author.Needs.{needs}
-use Rattle.placement.specs.Below.{nth}
+use Rattle.lists.specs.Below.{nth}
 use Rattle.vectors.proofs.draws.picked.Statement.{statement}
 use Rattle.vectors.proofs.draws.picked.Tie as tie
 

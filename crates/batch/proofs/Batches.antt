@@ -1,0 +1,255 @@
+-- A batch of lookups server by server: what holds of an id's part in it once the servers from k on are done.
+-- Assumes nothing.
+use Prim.Native.Nat.{ℕ, suc, _<_}
+use mathlib.Core.Path.{_≡_, refl, sym, ap, _∙_}
+use mathlib.Core.Logic.{_⊎_, inl, inr, ⊎-elim, _≢_}
+use mathlib.Core.Bool.{Bool, true, false, cond, not}
+use mathlib.Core.List.{List}
+use mathlib.Core.Option.{Option, none, some}
+use native.Mathlib.Omega.{arith}
+use lib.ListN.{length}
+use lib.Dec.{leb, eqb}
+use borrow.Author.Tests.{eqb-true, eqb-false, eq-eqb, le-leb, lt-leb}
+use Rattle.lists.specs.Below.{nth, countBelow}
+use Rattle.lists.proofs.Tests.{byBool}
+use Rattle.lists.proofs.Below.{countBelow-cong, countBelow-none}
+use Rattle.placement.specs.Rule.{readable, takes}
+use Rattle.medium.specs.Word.{contentRange, tagOf}
+use Rattle.medium.specs.Entry.{valueAt}
+use Rattle.table.specs.declared.Table.{Table}
+use Rattle.table.specs.Sound.{usedOf, readP, sound, reads}
+use Rattle.replies.specs.Refusal.{firstOf, settle}
+use Rattle.replies.specs.declared.Reply.{Reply}
+use Rattle.replies.specs.Reply.{refused, replyBy}
+use Rattle.replies.proofs.Refusals.{settle-yes, settle-no}
+use Rattle.replies.proofs.Answers.{reply-done}
+use Rattle.lookup.specs.Search.{Place, Search, lastLive, opening, searchBelow, searchFor}
+use Rattle.lookup.specs.Opened.{lowest, opens}
+use Rattle.lookup.specs.Lookup.{short, lookupRows, metReply, lookupReply}
+use Rattle.lookup.proofs.Searches.{search-cases, search-low, opened-are}
+use Rattle.batch.specs.declared.Progress.{Progress}
+use Rattle.batch.specs.Batch.{lookupOpens}
+use Rattle.batch.specs.Batching.{absentSoFar, firstRefusal, visited, stepped}
+use Rattle.batch.proofs.Stepping.{step-tested, step-settled}
+use Rattle.batch.proofs.Tally.{Tally, tally-start, tally-none, tally-skip, tally-open, tally-above, tally-count}
+
+-- refusal and value of an entry that is met do not hang on how many servers were opened, and it is not called absent
+module _ (capacity : ℕ) (m : List ℕ) where
+  met-same : (a b : ℕ) (p : Place)
+      → (metReply capacity m a (some p) .refusal ≡ metReply capacity m b (some p) .refusal)
+      × (metReply capacity m a (some p) .value ≡ metReply capacity m b (some p) .value)
+  unfolding metReply
+  met-same a b p = byBool (eqb (tagOf (nth m (valueAt capacity (p .server) (p .entry)))) 1) (λ e. rw e (refl, refl)) (λ e. rw e (refl, refl))
+
+  met-opened : (a : ℕ) (o : Option Place) → metReply capacity m a o .opened ≡ a
+  unfolding metReply
+  met-opened a none = refl
+  met-opened a (some p) = byBool (eqb (tagOf (nth m (valueAt capacity (p .server) (p .entry)))) 1) (λ e. rw e) (λ e. rw e)
+
+  met-not-absent : (a : ℕ) (p : Place) → metReply capacity m a (some p) .refusal ≢ 8
+  unfolding metReply
+  met-not-absent a p = byBool (eqb (tagOf (nth m (valueAt capacity (p .server) (p .entry)))) 1)
+      (λ e. rw e (λ z. omega arith)) (λ e. rw e (λ z. omega arith))
+
+-- what the rows of a lookup give, by their tests: soundness, range, a server, enough words
+number : Bool → Bool → Bool → Bool → ℕ
+number a b c d = cond a 1 (cond b 2 (cond c 3 (cond d 5 0)))
+
+-- the tests of an id against those of id 0, which is in range
+tests-say : (a b c d : Bool)
+    → (cond (eqb (number a false c d) 1) 1 (cond b 2 (absentSoFar (number a false c d))) ≡ absentSoFar (number a b c d))
+    × (number a b c d ≡ 0 → number a false c d ≡ 0)
+    × (number a b c d ≢ 8)
+unfolding number absentSoFar
+tests-say true b c d = (refl, λ z. absurd (omega arith), λ z. omega arith)
+tests-say false true true d = (refl, λ z. absurd (omega arith), λ z. omega arith)
+tests-say false true false true = (refl, λ z. absurd (omega arith), λ z. omega arith)
+tests-say false true false false = (refl, λ z. refl, λ z. omega arith)
+tests-say false false true d = (refl, λ z. absurd (omega arith), λ z. omega arith)
+tests-say false false false true = (refl, λ z. absurd (omega arith), λ z. omega arith)
+tests-say false false false false = (refl, λ z. refl, λ z. omega arith)
+
+module _ (t : Table) (m : List ℕ) (id : ℕ) where
+  -- the search has met no entry so far, and goes on below k
+  pub record Pending (k : ℕ) (p : Progress) : Type 0 where
+    pub absent : p .refusal ≡ 8
+    pub noValue : p .value ≡ 0
+    pub ready : firstOf (lookupRows t m id) ≡ 0
+    pub left : searchFor t m id .met ≡ searchBelow t m id k .met
+
+  -- refused before its search, or ended by an entry: its reply stands, and no server below k is opened
+  pub record Ended (k : ℕ) (p : Progress) : Type 0 where
+    pub notAbsent : p .refusal ≢ 8
+    pub refusal : p .refusal ≡ lookupReply t m id .refusal
+    pub value : p .value ≡ lookupReply t m id .value
+    pub closed : (j : ℕ) → j < k → lookupOpens t m id j ≡ false
+
+  pub record DoneFrom (k : ℕ) (p : Progress) : Type 0 where
+    pub tally : Tally (lookupOpens t m id) (t .count) k (p .opened) (p .end)
+    pub status : Pending k p ⊎ Ended k p
+
+  -- the servers that it opens are those of its search where it comes to that, and else none
+  opens-ready : firstOf (lookupRows t m id) ≡ 0 → (k : ℕ) → lookupOpens t m id k ≡ opens t m id k
+  unfolding lookupOpens
+  opens-ready z k = settle-yes (lookupRows t m id) (opens t m id k) false z
+
+  opens-none : firstOf (lookupRows t m id) ≢ 0 → (k : ℕ) → lookupOpens t m id k ≡ false
+  unfolding lookupOpens
+  opens-none z k = settle-no (lookupRows t m id) (opens t m id k) false z
+
+  -- where the search meets an entry, no server below is opened
+  closed-below : (p : Place) → firstOf (lookupRows t m id) ≡ 0 → searchFor t m id .met ≡ some p → (i : ℕ) → i < p .server → lookupOpens t m id i ≡ false
+  unfolding opens lowest
+  closed-below p z e i b = opens-ready z i ∙ rw (e, lt-leb (p .server) i b)
+
+  reply-met : (o : Option Place) → firstOf (lookupRows t m id) ≡ 0 → searchFor t m id .met ≡ o
+      → lookupReply t m id ≡ metReply (t .capacity) m (length (searchFor t m id .opened)) o
+  unfolding lookupReply
+  reply-met o z e = reply-done (lookupRows t m id) z _ ∙ ap (metReply (t .capacity) m (length (searchFor t m id .opened))) e
+
+  -- the opened count of a single lookup is the number of the servers that it opens
+  reply-opened : lookupReply t m id .opened ≡ countBelow (lookupOpens t m id) (t .count)
+  unfolding lookupReply replyBy settle
+  reply-opened = byBool (eqb (firstOf (lookupRows t m id)) 0)
+      (λ e.
+      let z = eqb-true (firstOf (lookupRows t m id)) 0 e in
+      rw e (met-opened (t .capacity) m (length (searchFor t m id .opened)) (searchFor t m id .met)
+      ∙ opened-are t m id .number
+      ∙ countBelow-cong (opens t m id) (lookupOpens t m id) (t .count) (λ k l. sym (opens-ready z k))))
+      (λ e. rw e (sym (countBelow-none (lookupOpens t m id) (t .count) (λ k l. opens-none (eqb-false (firstOf (lookupRows t m id)) 0 e) k))))
+
+  -- before the first server: what the tests say of id 0 tells what they say of this one
+  first-number : firstRefusal (firstOf (lookupRows t m 0)) id ≡ absentSoFar (firstOf (lookupRows t m id))
+  unfolding lookupRows firstOf firstRefusal number
+  first-number = tests-say (not (sound t)) (leb contentRange id) (eqb (t .count) 0) (short t m) .0
+
+  ready-alike : firstOf (lookupRows t m id) ≡ 0 → firstOf (lookupRows t m 0) ≡ 0
+  unfolding lookupRows firstOf number
+  ready-alike = tests-say (not (sound t)) (leb contentRange id) (eqb (t .count) 0) (short t m) .1
+
+  pub refused-opens : firstOf (lookupRows t m 0) ≢ 0 → (k : ℕ) → lookupOpens t m id k ≡ false
+  refused-opens z k = opens-none (λ e. z (ready-alike e)) k
+
+  not-absent : firstOf (lookupRows t m id) ≢ 8
+  unfolding lookupRows firstOf number
+  not-absent = tests-say (not (sound t)) (leb contentRange id) (eqb (t .count) 0) (short t m) .2
+
+  pub first-done : DoneFrom (settle (lookupRows t m 0) (t .count) 0)
+      (record { refusal = firstRefusal (firstOf (lookupRows t m 0)) id; value = 0; opened = 0; end = 0 })
+  unfolding absentSoFar searchFor lookupReply replyBy
+  first-done = rw first-number (byBool (eqb (firstOf (lookupRows t m id)) 0)
+      (λ e.
+      let z = eqb-true (firstOf (lookupRows t m id)) 0 e in
+      rw (e, settle-yes (lookupRows t m 0) (t .count) 0 (ready-alike z)) (record {
+        tally = tally-start (lookupOpens t m id) (t .count);
+        status = inl (record { absent = refl; noValue = refl; ready = z; left = left });
+      }))
+      (λ e.
+      let z = eqb-false (firstOf (lookupRows t m id)) 0 e in
+      rw e (record {
+        tally = tally-none (lookupOpens t m id) (t .count) _ (opens-none z);
+        status = inr (record {
+          notAbsent = not-absent;
+          refusal = sym (ap (λ (x : Reply). x .refusal) (refused-reply z));
+          value = sym (ap (λ (x : Reply). x .value) (refused-reply z));
+          closed = λ j b. opens-none z j;
+        });
+      })))
+    where
+      left : searchFor t m id .met ≡ searchBelow t m id (t .count) .met
+      left = refl
+
+      refused-reply : firstOf (lookupRows t m id) ≢ 0 → lookupReply t m id ≡ refused (firstOf (lookupRows t m id)) 0
+      refused-reply z = settle-no (lookupRows t m id) _ _ z
+
+  -- server k is next
+  module _ (k : ℕ) (l : k < t .count) where
+    abbrev Next : Progress → Progress
+    Next p = stepped (readP t k) (t .capacity) (usedOf t k) m id k p
+
+    -- of one that is absent so far, and of one that is not
+    next-absent : (p : Progress) (b : Bool) → p .refusal ≡ 8 → reads t id k ≡ b
+        → Next p ≡ cond b (visited (t .capacity) m k (suc (p .opened)) (lastLive t m id k)) p
+    unfolding lastLive readable takes
+    next-absent p b a e = step-tested (readP t k) (t .capacity) (usedOf t k) m id k p a refl b e
+
+    next-other : (p : Progress) → p .refusal ≢ 8 → Next p ≡ p
+    next-other p a = sym (step-settled (readP t k) (t .capacity) (usedOf t k) m id k p a)
+
+    -- it is opened exactly where it is read for one that is absent so far
+    opened-here : (o : Option Place) → firstOf (lookupRows t m id) ≡ 0 → searchFor t m id .met ≡ o → leb (lowest o) k ≡ true
+        → (b : Bool) → reads t id k ≡ b → lookupOpens t m id k ≡ b
+    unfolding opens
+    opened-here o z e h b r = opens-ready z k ∙ rw (e, h, r)
+
+    -- what one more server leaves, and whether it is opened
+    pub record Stepped (p : Progress) : Type 0 where
+      pub done : DoneFrom k p
+      pub opened : eqb (p .end) (suc k) ≡ lookupOpens t m id k
+
+    skipped : (p : Progress) → DoneFrom (suc k) p → lookupOpens t m id k ≡ false → Pending k p ⊎ Ended k p → Stepped p
+    skipped p d o s = record {
+      done = record { tally = tally-skip (lookupOpens t m id) (t .count) k (p .opened) (p .end) (d .tally) o; status = s };
+      opened = tally-above (lookupOpens t m id) (t .count) k (p .opened) (p .end) (d .tally) ∙ sym o;
+    }
+
+    visited-is : (p q : Progress) → DoneFrom (suc k) p → lookupOpens t m id k ≡ true → q .opened ≡ suc (p .opened) → q .end ≡ suc k
+        → Pending k q ⊎ Ended k q → Stepped q
+    visited-is p q d o a e s = record {
+      done = record {
+        tally = rw (a, e) (tally-open (lookupOpens t m id) (t .count) k (p .opened) (p .end) (d .tally) l o);
+        status = s;
+      };
+      opened = rw e (eq-eqb (suc k) (suc k) refl ∙ sym o);
+    }
+
+    in-vain : (p : Progress) → DoneFrom (suc k) p → Pending (suc k) p → reads t id k ≡ true
+        → searchFor t m id .met ≡ opening k none (searchBelow t m id k) .met
+        → Stepped (visited (t .capacity) m k (suc (p .opened)) none)
+    unfolding visited opening
+    in-vain p d s r e =
+        visited-is p _ d (opened-here _ (s .ready) e (search-low t m id k) true r) refl refl
+        (inl (record { absent = refl; noValue = refl; ready = s .ready; left = e }))
+
+    meets : (j : ℕ) (p : Progress) → DoneFrom (suc k) p → Pending (suc k) p → reads t id k ≡ true
+        → searchFor t m id .met ≡ opening k (some j) (searchBelow t m id k) .met
+        → Stepped (visited (t .capacity) m k (suc (p .opened)) (some j))
+    unfolding visited opening lowest
+    meets j p d s r e =
+        let here : Place = record { server = k; entry = j } in
+        let reply = reply-met (some here) (s .ready) e in
+        let same = met-same (t .capacity) m (suc (p .opened)) (length (searchFor t m id .opened)) here in
+        visited-is p _ d (opened-here (some here) (s .ready) e (le-leb k k (omega arith)) true r) refl refl
+        (inr (record {
+          notAbsent = met-not-absent (t .capacity) m (suc (p .opened)) here;
+          refusal = same .0 ∙ sym (ap (λ (x : Reply). x .refusal) reply);
+          value = same .1 ∙ sym (ap (λ (x : Reply). x .value) reply);
+          closed = λ i b. closed-below here (s .ready) e i b;
+        }))
+
+    step-pending : (p : Progress) → DoneFrom (suc k) p → Pending (suc k) p → Stepped (Next p)
+    step-pending p d s = search-cases t m id (λ (x : Search). searchFor t m id .met ≡ x .met → Stepped (Next p)) k
+        (λ r e. rw (next-absent p false (s .absent) r) (skipped p d (opened-here _ (s .ready) e (search-low t m id k) false r)
+        (inl (record { absent = s .absent; noValue = s .noValue; ready = s .ready; left = e }))))
+        (λ r n e. rw (next-absent p true (s .absent) r, n) (in-vain p d s r e))
+        (λ j r n e. rw (next-absent p true (s .absent) r, n) (meets j p d s r e))
+        (s .left)
+
+    pub step : (p : Progress) → DoneFrom (suc k) p → Stepped (Next p)
+    step p d = ⊎-elim (step-pending p d)
+        (λ (s : Ended (suc k) p). rw (next-other p (s .notAbsent)) (skipped p d (s .closed k (omega arith))
+        (inr (record { notAbsent = s .notAbsent; refusal = s .refusal; value = s .value; closed = λ j b. s .closed j (omega arith) }))))
+        (d .status)
+
+  -- all servers are done: the reply is that of a single lookup
+  pub all-done : (p : Progress) → DoneFrom 0 p
+      → (p .refusal ≡ lookupReply t m id .refusal) × (p .value ≡ lookupReply t m id .value) × (p .opened ≡ lookupReply t m id .opened)
+  unfolding searchBelow metReply
+  all-done p d =
+      let o = tally-count (lookupOpens t m id) (t .count) (p .opened) (p .end) (d .tally) ∙ sym reply-opened in
+      ⊎-elim
+      (λ (s : Pending 0 p).
+      let r = reply-met none (s .ready) (s .left) in
+      (s .absent ∙ sym (ap (λ (x : Reply). x .refusal) r), s .noValue ∙ sym (ap (λ (x : Reply). x .value) r), o))
+      (λ (s : Ended 0 p). (s .refusal, s .value, o))
+      (d .status)

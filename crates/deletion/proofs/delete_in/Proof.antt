@@ -1,0 +1,91 @@
+-- `deletion::delete_in` meets its contract: what the tests say, and the marks of every live entry on every readable server.
+use mathlib.Core.Path.{_≡_}
+use mathlib.Core.List.{List}
+use Prim.Native.Nat.{ℕ}
+use borrow.Author.Needs.{needs}
+use Rattle.table.specs.declared.Table.{Table}
+use Rattle.table.specs.Sound.{tableOf}
+use Rattle.replies.specs.Refusal.{firstOf}
+use Rattle.replies.specs.Reply.{numberOf, replyOfDelete}
+use Rattle.replies.proofs.Answers.{check-refused, check-accepted}
+use Rattle.lookup.specs.Lookup.{lookupRows}
+use Rattle.lookup.proofs.Passed.{lookup-accepted}
+use Rattle.deletion.proofs.Done.{delete-refused, deleted-none, deleted-done}
+use Rattle.deletion.proofs.delete_in.Statement.{statement}
+use Rattle.deletion.proofs.delete_in.Tie as tie
+
+ready-requires : tie.Need-ready-requires
+ready-requires c κs = search needs
+
+enum-known-check : tie.Need-enum-known-check
+enum-known-check c = search needs
+
+-- the call's arguments
+abbrev S : tie.After-ready → tie.Start
+S c = c .before .before .before
+
+abbrev T : tie.After-ready → Table
+T c = let a = S c .args in tableOf (a .shape) (a .columns)
+
+abbrev M : tie.After-ready → List ℕ
+M c = S c .args .medium .now
+
+refused-here : (c : tie.After-check) → numberOf (c .check .given .0 .0) ≡ firstOf (lookupRows (T (c .before .before)) (M (c .before .before)) (S (c .before .before) .args .id))
+refused-here c = check-refused (lookupRows (T (c .before .before)) (M (c .before .before)) (S (c .before .before) .args .id)) (c .before .before .ready .ensures) (c .check .given .1)
+
+accepted-here : (c : tie.After-enum-told) → firstOf (lookupRows (T (c .before .before)) (M (c .before .before)) (S (c .before .before) .args .id)) ≡ 0
+accepted-here c = check-accepted (lookupRows (T (c .before .before)) (M (c .before .before)) (S (c .before .before) .args .id)) (c .before .before .ready .ensures) (c .enum-told .given .1)
+
+same-length : tie.Need-same-length
+same-length c = search needs
+
+returns : tie.Need-returns
+unfolding replyOfDelete
+returns c = let r = c .before .before .before in delete-refused (T r) (M r) (S r .args .id) _ (refused-here (c .before))
+
+enum-told : tie.Need-enum-told
+enum-told c = search needs
+
+invalidate-requires : tie.Need-invalidate-requires
+invalidate-requires c κs = (lookup-accepted _ _ _ (accepted-here (c .before)) .inside, search needs)
+
+-- where the tests were accepted
+abbrev E : tie.After-invalidate → tie.After-enum-told
+E c = c .before .before
+
+same-length-2 : tie.Need-same-length-2
+same-length-2 c = search needs
+
+returns-2 : tie.Need-returns-2
+unfolding replyOfDelete numberOf
+returns-2 c =
+    let i = c .before .before .before in
+    let e = E i in
+    let r = e .before .before in
+    deleted-none (T r) (M r) (S r .args .id) (accepted-here e) _ _ (i .invalidate .ensures .0) (i .invalidate .ensures .1) (c .if1 .taken)
+
+same-length-3 : tie.Need-same-length-3
+same-length-3 c = search needs
+
+returns-3 : tie.Need-returns-3
+unfolding replyOfDelete
+returns-3 c =
+    let i = c .before .before .before in
+    let e = E i in
+    let r = e .before .before in
+    deleted-done (T r) (M r) (S r .args .id) (accepted-here e) _ _ (i .invalidate .ensures .0) (i .invalidate .ensures .1) (c .if1 .left)
+
+pub delete-in-spec : {M : Type 1} → statement M
+delete-in-spec =
+    tie.close
+    (tie.spec
+    ready-requires
+    enum-known-check
+    same-length
+    returns
+    enum-told
+    invalidate-requires
+    same-length-2
+    returns-2
+    same-length-3
+    returns-3)

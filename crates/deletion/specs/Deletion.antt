@@ -1,0 +1,40 @@
+-- Delete (document 01, "The calls" and its table of refusals): its rows of refusals in the order of the tests, its reply, and
+-- the medium that it leaves. t is the table and m the medium as lent.
+use Prim.Native.Nat.{ℕ}
+use mathlib.Core.Bool.{Bool, true, false, not}
+use mathlib.Core.List.{List, [], _∷_}
+use mathlib.Core.Option.{Option, none, some}
+use lib.ListN.{length}
+use lib.Dec.{leb, eqb}
+use Rattle.medium.specs.Word.{contentRange, deleted}
+use Rattle.medium.specs.Burn.{burnAll, marksOver, invalidations}
+use Rattle.table.specs.declared.Table.{Table}
+use Rattle.table.specs.Sound.{usedOf, sound, reads}
+use Rattle.replies.specs.Refusal.{Row, _when_, settle}
+use Rattle.replies.specs.declared.Reply.{Reply}
+use Rattle.replies.specs.Reply.{onServer, replyBy}
+use Rattle.lookup.specs.Search.{Place, searchFor}
+use Rattle.lookup.specs.Lookup.{short}
+
+unfoldable pub isMet : Option Place → Bool
+isMet none = false
+isMet (some p) = true
+
+unfoldable pub deleteRows : Table → List ℕ → ℕ → List Row
+deleteRows t m id =
+    1 when not (sound t)
+    ∷ 2 when leb contentRange id
+    ∷ 3 when eqb (t .count) 0
+    ∷ 5 when short t m
+    ∷ 8 when not (isMet (searchFor t m id .met))
+    ∷ []
+
+-- the marks of every live entry on every readable server
+unfoldable pub deleteMarks : Table → List ℕ → ℕ → List ℕ
+deleteMarks t m id = marksOver (t .capacity) (usedOf t) m id (reads t id) (t .count)
+
+unfoldable pub deleteReply : Table → List ℕ → ℕ → Reply
+deleteReply t m id = replyBy (deleteRows t m id) (onServer 0 (length (deleteMarks t m id)))
+
+unfoldable pub deleteMedium : Table → List ℕ → ℕ → List ℕ
+deleteMedium t m id = settle (deleteRows t m id) (burnAll m (invalidations deleted (deleteMarks t m id))) m

@@ -1,0 +1,52 @@
+// Delete: every live entry of an id on every readable server is invalidated.
+ghost use mathlib.Core.Path.{_≡_};
+ghost use Rattle.table.specs.Sound.{tableOf};
+ghost use Rattle.replies.specs.Reply.{replyOfDelete};
+ghost use Rattle.deletion.specs.Deletion.{deleteReply, deleteMedium};
+use replies::Check;
+use replies::DeleteAnswer;
+use replies::Refusal;
+use table::Shape;
+use table::Table;
+
+// Delete on a table whose arrays are borrowed.
+pub fn delete_in<'a>(
+    shape: Shape,
+    columns: [&'a [u32; 256]; 4],
+    medium: &mut [u32],
+    id: u32,
+) -> DeleteAnswer
+    ensures reply { λ r. ⌜ replyOfDelete r ≡ deleteReply (tableOf shape (columns .entry)) (now (medium .entry)) id ⌝ }
+    ensures medium { λ _. ⌜ now (medium .exit) ≡ deleteMedium (tableOf shape (columns .entry)) (now (medium .entry)) id ⌝ }
+{
+    let check = lookup::ready(shape, columns, medium, id);
+    if let Check::Refused(refusal) = check {
+        return DeleteAnswer::Refused(refusal);
+    }
+    let n = invalidation::invalidate(medium, shape, columns, id, 0, medium::DELETED);
+    if n == 0 {
+        return DeleteAnswer::Refused(Refusal::NotFound);
+    }
+    DeleteAnswer::Deleted(n)
+}
+
+// Delete on a table by value.
+pub fn delete(table: Table, medium: &mut [u32], id: u32) -> DeleteAnswer
+    ensures reply { λ r. ⌜ replyOfDelete r ≡ deleteReply table (now (medium .entry)) id ⌝ }
+    ensures medium { λ _. ⌜ now (medium .exit) ≡ deleteMedium table (now (medium .entry)) id ⌝ }
+{
+    delete_in(
+        Shape {
+            capacity: table.capacity,
+            count: table.count,
+        },
+        [
+            &table.weights,
+            &table.used,
+            &table.numerators,
+            &table.denominators,
+        ],
+        medium,
+        id,
+    )
+}

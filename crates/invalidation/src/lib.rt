@@ -1,0 +1,47 @@
+// The invalidations of a write and of a delete: a mark on each live entry of an id, server by server.
+ghost use mathlib.Core.Path.{_≡_};
+ghost use Prim.Native.Nat.{_<_};
+ghost use lib.ListN.{length};
+ghost use Rattle.lists.specs.Below.{nth};
+ghost use Rattle.medium.specs.Entry.{AllInside};
+ghost use Rattle.medium.specs.Burn.{burnAll, invalidations};
+ghost use Rattle.table.specs.Sound.{tableOf, column};
+ghost use Rattle.invalidation.specs.Marks.{marksFrom};
+use placement::Fraction;
+use table::Shape;
+
+// Burns a mark of this content on each live entry of an id on the readable servers from the highest down to `from`, and
+// answers how many it burned.
+pub fn invalidate<'a>(
+    medium: &mut [u32],
+    shape: Shape,
+    columns: [&'a [u32; 256]; 4],
+    id: u32,
+    from: usize,
+    content: u32,
+) -> usize
+    requires { ⌜ AllInside (shape .capacity) (shape .count) (nth (column columns 1)) (now medium) ⌝ }
+    requires { ⌜ content < 1073741824 ⌝ }
+    ensures count { λ r. ⌜ r ≡ length (marksFrom (tableOf shape (columns .entry)) (now (medium .entry)) id from) ⌝ }
+    ensures words { λ _. ⌜ now (medium .exit) ≡ burnAll (now (medium .entry)) (invalidations content (marksFrom (tableOf shape (columns .entry)) (now (medium .entry)) id from)) ⌝ }
+{
+    let capacity = shape.capacity;
+    let count = shape.count;
+    let used = columns[1];
+    let numerators = columns[2];
+    let denominators = columns[3];
+    let entries = capacity as usize;
+    let mut n: usize = 0;
+    let mut k = count;
+    while from < k {
+        k -= 1;
+        let read = Fraction {
+            num: numerators[k],
+            den: denominators[k],
+        };
+        if placement::takes(read, id, k) {
+            n += medium::invalidate_server(medium, entries, used[k] as usize, id, k, content);
+        }
+    }
+    n
+}

@@ -1,0 +1,5 @@
+pub mod Finding
+pub mod Searches
+pub mod Passed
+mod Looked
+pub mod OpenedByValues

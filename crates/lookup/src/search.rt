@@ -1,0 +1,119 @@
+// Lookup: a search over the servers from the highest down, and on each over its entries downward.
+ghost use mathlib.Core.Path.{_≡_};
+ghost use mathlib.Core.Option.{some};
+ghost use Prim.Native.Nat.{_<_};
+ghost use Rattle.lists.specs.Below.{nth};
+ghost use Rattle.medium.specs.Entry.{Inside, AllInside};
+ghost use Rattle.table.specs.Sound.{tableOf, column};
+ghost use Rattle.replies.specs.Reply.{replyOfLookup};
+ghost use Rattle.lookup.specs.Search.{searchFor, foundBy};
+ghost use Rattle.lookup.specs.Lookup.{metReply, lookupReply};
+use crate::Found;
+use crate::checks;
+use placement::Fraction;
+use replies::Check;
+use replies::LookupAnswer;
+use replies::Refusal;
+use table::Shape;
+use table::Table;
+
+// The entry that a lookup meets, and how many servers it opens.
+pub fn find<'a>(shape: Shape, columns: [&'a [u32; 256]; 4], medium: &[u32], id: u32) -> Found
+    requires { ⌜ AllInside (shape .capacity) (shape .count) (nth (column columns 1)) (now medium) ⌝ }
+    ensures { λ r. ⌜ r ≡ foundBy (searchFor (tableOf shape (columns .entry)) (now (medium .entry)) id) ⌝ }
+{
+    let capacity = shape.capacity;
+    let count = shape.count;
+    let used = columns[1];
+    let numerators = columns[2];
+    let denominators = columns[3];
+    let entries = capacity as usize;
+    let mut met = false;
+    let mut opened: usize = 0;
+    let mut j: usize = 0;
+    let mut k = count;
+    'search: while 0 < k {
+        k -= 1;
+        let read = Fraction {
+            num: numerators[k],
+            den: denominators[k],
+        };
+        if placement::takes(read, id, k) {
+            opened += 1;
+            j = used[k] as usize;
+            while 0 < j {
+                j -= 1;
+                if medium::bears(medium, medium::entry_at(entries, k, j), id) {
+                    met = true;
+                    break 'search;
+                }
+            }
+        }
+    }
+    if met {
+        Found::At(k, j, opened)
+    } else {
+        Found::Nowhere(opened)
+    }
+}
+
+// The answer for the entry that a lookup meets: its value, or that its value word has another tag.
+pub fn met(
+    capacity: u32,
+    medium: &[u32],
+    server: usize,
+    entry: usize,
+    opened: usize,
+) -> LookupAnswer
+    requires { ⌜ Inside capacity server (now medium) ⌝ }
+    requires { ⌜ entry < capacity ⌝ }
+    ensures { λ r. ⌜ replyOfLookup r ≡ metReply capacity (now (medium .entry)) opened (some (record { server = server; entry = entry })) ⌝ }
+{
+    let word = medium[medium::entry_at(capacity as usize, server, entry) + 1];
+    if word / medium::CONTENT_RANGE == 1 {
+        LookupAnswer::Found(word % medium::CONTENT_RANGE, opened)
+    } else {
+        LookupAnswer::Refused(Refusal::Corrupt, opened)
+    }
+}
+
+// Lookup on a table whose arrays are borrowed: the value of an id, or why there is none, and how many servers were opened.
+pub fn lookup_in<'a>(
+    shape: Shape,
+    columns: [&'a [u32; 256]; 4],
+    medium: &[u32],
+    id: u32,
+) -> LookupAnswer
+    ensures { λ r. ⌜ replyOfLookup r ≡ lookupReply (tableOf shape (columns .entry)) (now (medium .entry)) id ⌝ }
+{
+    let capacity = shape.capacity;
+    let check = checks::ready(shape, columns, medium, id);
+    if let Check::Refused(refusal) = check {
+        return LookupAnswer::Refused(refusal, 0);
+    }
+    let found = find(shape, columns, medium, id);
+    match found {
+        Found::Nowhere(opened) => LookupAnswer::Refused(Refusal::NotFound, opened),
+        Found::At(server, entry, opened) => met(capacity, medium, server, entry, opened),
+    }
+}
+
+// Lookup on a table by value.
+pub fn lookup(table: Table, medium: &[u32], id: u32) -> LookupAnswer
+    ensures { λ r. ⌜ replyOfLookup r ≡ lookupReply table (now (medium .entry)) id ⌝ }
+{
+    lookup_in(
+        Shape {
+            capacity: table.capacity,
+            count: table.count,
+        },
+        [
+            &table.weights,
+            &table.used,
+            &table.numerators,
+            &table.denominators,
+        ],
+        medium,
+        id,
+    )
+}

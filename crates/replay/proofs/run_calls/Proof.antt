@@ -1,0 +1,154 @@
+-- `replay::run_calls` meets its contract. The invariant: the calls passed are run, as `Replayed` says.
+use Prim.Native.Nat.{ℕ, _+_, _*_, _-_, _≤_}
+use mathlib.Core.Path.{_≡_, ap, _∙_}
+use mathlib.Core.Logic.{⊎-elim}
+use mathlib.Core.List.{List}
+use native.Mathlib.Omega.{arith}
+use borrow.Author.Needs.{needs}
+use lib.ListN.{length}
+use Rattle.lists.specs.Below.{nth}
+use Rattle.history.specs.Machine.{State}
+use Rattle.replay.specs.Replay.{callOf, callAt}
+use Rattle.replay.proofs.Replaying.{Called, called-as, counts, called-in, called-small, Replayed, none-run, one-run}
+use Rattle.replay.proofs.run_calls.Statement.{statement}
+use Rattle.replay.proofs.run_calls.Tie as tie
+
+abbrev Inv-loop : tie.InvT-loop
+Inv-loop calls medium₀ replies₀ n next₀ i₀ medium replies next i =
+    (i ≤ n) × Replayed (record { table = next₀; medium = medium₀ }) calls replies₀ i next medium replies
+
+abbrev μ-loop : tie.MeasureT-loop
+μ-loop calls medium₀ replies₀ n next₀ i₀ medium replies next i = n - i
+
+loop-holds : tie.Need-loop-holds Inv-loop μ-loop
+loop-holds c = (search needs, none-run _ _ _)
+
+mul-at : tie.Need-mul-at Inv-loop μ-loop
+mul-at c = search needs
+
+mul-number : tie.Need-mul-number Inv-loop μ-loop
+mul-number c = search needs
+
+shared-slice-read-number : tie.Need-shared-slice-read-number Inv-loop μ-loop
+shared-slice-read-number c = search needs
+
+add-first : tie.Need-add-first Inv-loop μ-loop
+add-first c = search needs
+
+mul-first : tie.Need-mul-first Inv-loop μ-loop
+mul-first c = search needs
+
+shared-slice-read-first : tie.Need-shared-slice-read-first Inv-loop μ-loop
+shared-slice-read-first c = search needs
+
+add-second : tie.Need-add-second Inv-loop μ-loop
+add-second c = search needs
+
+mul-second : tie.Need-mul-second Inv-loop μ-loop
+mul-second c = search needs
+
+shared-slice-read-second : tie.Need-shared-slice-read-second Inv-loop μ-loop
+shared-slice-read-second c = search needs
+
+run-change-requires : tie.Need-run-change-requires Inv-loop μ-loop
+run-change-requires c κs = search needs
+
+-- the loop's head, the state there, and the words of the call
+abbrev L : tie.After-shared-slice-known4 Inv-loop μ-loop → tie.At-loop Inv-loop μ-loop
+L c = c .before .before .before .before
+
+abbrev S : tie.At-loop Inv-loop μ-loop → State
+S l = record { table = l .loop .next; medium = l .loop .medium }
+
+abbrev calls : tie.At-loop Inv-loop μ-loop → List ℕ
+calls l = l .before .before .before .before .args .calls .now
+
+abbrev number : tie.At-loop Inv-loop μ-loop → ℕ
+number l = nth (calls l) (3 * l .loop .i)
+
+abbrev first : tie.At-loop Inv-loop μ-loop → ℕ
+first l = nth (calls l) (3 * l .loop .i + 1)
+
+abbrev second : tie.At-loop Inv-loop μ-loop → ℕ
+second l = nth (calls l) (3 * l .loop .i + 2)
+
+run-in-requires : tie.Need-run-in-requires Inv-loop μ-loop
+run-in-requires c κs = (λ e. omega arith, λ e. omega arith)
+
+count-entry-requires : tie.Need-count-entry-requires Inv-loop μ-loop
+count-entry-requires c κs =
+    let r = c .before .before .before in
+    let l = L (r .before .before .before .before .before .before .before .before) in
+    counts (S l) (number l) (first l) (second l) (r .run-in .result) (r .run-in .ensures .0)
+
+-- the call is run, by either way
+abbrev CalledHere : tie.Joined1 Inv-loop μ-loop → Type 0
+CalledHere c = let l = L (c .before) in Called (S l) (callOf (number l) (first l) (second l)) (c .if1 .reply) (c .if1 .next) (c .if1 .medium)
+
+called-here : (c : tie.Joined1 Inv-loop μ-loop) → CalledHere c
+called-here c =
+    let l = L (c .before) in
+    ⊎-elim {C = CalledHere c}
+    (λ w. called-as (S l) _ (w .9) (w .8) (w .7) (w .2 .ensures))
+    (λ w. called-as (S l) _ (w .14) (w .13) (w .12)
+    (called-in (S l) (number l) (first l) (second l) (w .7 .result) (w .7 .ensures .0) _ _ (λ e. omega (arith, w .0 .left)) (λ e. omega (arith, w .0 .left)) (w .11 .ensures) (w .7 .ensures .1)))
+    (c .if1 .came)
+
+kept-here : (c : tie.Joined1 Inv-loop μ-loop) → length (c .if1 .medium) ≡ length (L (c .before) .loop .medium)
+kept-here c = ⊎-elim (λ w. ap length (w .7) ∙ w .2 .kept .1 .0) (λ w. ap length (w .12) ∙ w .7 .kept .1 .1 .0) (c .if1 .came)
+
+store-requires : tie.Need-store-requires Inv-loop μ-loop
+store-requires c κs = let j = c .before in (search needs, called-small _ _ (j .if1 .reply) (called-here j .0))
+
+add-i : tie.Need-add-i Inv-loop μ-loop
+add-i c = search needs
+
+loop-less : tie.Need-loop-less Inv-loop μ-loop
+loop-less c = search needs
+
+loop-again : tie.Need-loop-again Inv-loop μ-loop
+unfolding callAt
+loop-again c =
+    let s = c .before .before in
+    let j = s .before .before in
+    let l = L (j .before) in
+    (search needs, one-run _ _ _ (l .loop .i) (l .loop .next) _ (l .loop .medium) _ (l .loop .replies) _ _ (l .loop .inv .1) (called-here j) (kept-here j) (s .store .ensures))
+
+same-length : tie.Need-same-length Inv-loop μ-loop
+same-length c = search needs
+
+same-length-2 : tie.Need-same-length-2 Inv-loop μ-loop
+same-length-2 c = search needs
+
+returns : tie.Need-returns Inv-loop μ-loop
+returns c =
+    let l = c .before in
+    let e : l .loop .i ≡ l .before .before .before .before .args .n = omega arith in
+    rw (← e) (l .loop .inv .1 .state, l .loop .inv .1 .stored)
+
+pub run-calls-spec : {M : Type 1} → statement M
+run-calls-spec =
+    tie.close
+    (tie.spec
+    Inv-loop
+    μ-loop
+    loop-holds
+    mul-at
+    mul-number
+    shared-slice-read-number
+    add-first
+    mul-first
+    shared-slice-read-first
+    add-second
+    mul-second
+    shared-slice-read-second
+    run-change-requires
+    run-in-requires
+    count-entry-requires
+    store-requires
+    add-i
+    loop-less
+    loop-again
+    same-length
+    same-length-2
+    returns)

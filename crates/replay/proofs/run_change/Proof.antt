@@ -1,0 +1,63 @@
+-- `replay::run_change` meets its contract: a return for call 1, for call 2, and for what is no call.
+use mathlib.Core.Path.{refl, _∙_}
+use native.Mathlib.Omega.{arith}
+use borrow.Author.Needs.{needs}
+use Rattle.history.specs.Machine.{reply, next}
+use Rattle.replay.specs.Replay.{callOf, replyTo, nextBy}
+use Rattle.replay.proofs.Replaying.{no-call}
+use Rattle.replay.proofs.run_change.Statement.{statement}
+use Rattle.replay.proofs.run_change.Tie as tie
+
+add-server-requires : tie.Need-add-server-requires
+add-server-requires c κs = search needs
+
+from-placed-requires : tie.Need-from-placed-requires
+from-placed-requires c κs = search needs
+
+reweight-requires : tie.Need-reweight-requires
+reweight-requires c κs = search needs
+
+from-placed-requires-2 : tie.Need-from-placed-requires-2
+from-placed-requires-2 c κs = search needs
+
+no-call-requires : tie.Need-no-call-requires
+no-call-requires c κs = search needs
+
+same-length : tie.Need-same-length
+same-length c = search needs
+
+returns : tie.Need-returns
+unfolding callOf replyTo nextBy reply next
+returns c =
+    let a = c .before in
+    rw (a .before .before .match .keys1) (c .from-placed .ensures .0 ∙ a .add-server .ensures .0, (c .from-placed .ensures .1 ∙ a .add-server .ensures .1, refl))
+
+returns-2 : tie.Need-returns-2
+unfolding callOf replyTo nextBy reply next
+returns-2 c =
+    let a = c .before in
+    rw (a .before .match .keys2) (c .from-placed2 .ensures .0 ∙ a .reweight .ensures .0, (c .from-placed2 .ensures .1 ∙ a .reweight .ensures .1, refl))
+
+returns-3 : tie.Need-returns-3
+unfolding replyTo nextBy
+returns-3 c =
+    let h = c .before in
+    let s = h .before .before in
+    let n = s .args .number in
+    let few = s .pre in
+    let e = no-call n (s .args .first) (s .args .second) (h .match .rest .0 .1) (h .match .rest .1) (λ e. omega (arith, few)) (λ e. omega (arith, few)) (λ e. omega (arith, few)) in
+    rw e (c .no-call .ensures, (refl, refl))
+
+pub run-change-spec : {M : Type 1} → statement M
+run-change-spec =
+    tie.close
+    (tie.spec
+    add-server-requires
+    from-placed-requires
+    reweight-requires
+    from-placed-requires-2
+    no-call-requires
+    same-length
+    returns
+    returns-2
+    returns-3)

@@ -1,0 +1,62 @@
+// Why a call is refused, what each call answers, and both in document 01's numbers.
+mod numbers;
+
+pub use numbers::check_number;
+pub use numbers::delete_reply;
+pub use numbers::lookup_reply;
+pub use numbers::server_reply;
+pub use numbers::start_reply;
+pub use numbers::write_reply;
+
+// Why a call is refused: a case for each number of document 01's table, in its order from 1 to 10.
+pub enum Refusal {
+    UnsoundTable,
+    OutOfRange,
+    NoSuchServer,
+    TooManyServers,
+    ShortMedium,
+    ServerFull,
+    NotBlank,
+    NotFound,
+    ExceedsFree,
+    Corrupt,
+}
+
+// What the tests before a call say, and the answer of start.
+pub enum Check {
+    Accepted,
+    Refused(Refusal),
+}
+
+// The answer of add_server and reweight: the server's number.
+pub enum ServerAnswer {
+    Server(usize),
+    Refused(Refusal),
+}
+
+// The answer of write: the server, and how many earlier entries it invalidated.
+pub enum WriteAnswer {
+    Written(usize, usize),
+    Refused(Refusal),
+}
+
+// The answer of delete: how many entries it invalidated.
+pub enum DeleteAnswer {
+    Deleted(usize),
+    Refused(Refusal),
+}
+
+// The answer of lookup: the value, or the refusal; and how many servers it opened.
+pub enum LookupAnswer {
+    Found(u32, usize),
+    Refused(Refusal, usize),
+}
+
+// A reply in document 01's numbers. Refusal 0 is acceptance; what an answer does not carry is 0.
+pub struct Reply {
+    pub refusal: u32,
+    pub server: usize,
+    pub value: u32,
+    pub opened: usize,
+    pub invalidated: usize,
+}

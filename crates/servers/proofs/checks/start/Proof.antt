@@ -1,0 +1,22 @@
+-- `servers::checks::start` meets its contract: a return for each side of the range.
+use borrow.Author.Tests.{le-leb, lt-leb}
+use Rattle.replies.specs.Refusal.{firstOf}
+use Rattle.replies.specs.Reply.{numberOf, checkNumber}
+use Rattle.servers.specs.Servers.{startRows}
+use Rattle.servers.proofs.checks.start.Statement.{statement}
+use Rattle.servers.proofs.checks.start.Tie as tie
+
+returns : tie.Need-returns
+unfolding checkNumber numberOf startRows firstOf
+returns c = rw (lt-leb _ _ (c .if1 .taken))
+
+returns-2 : tie.Need-returns-2
+unfolding checkNumber numberOf startRows firstOf
+returns-2 c = rw (le-leb _ _ (c .before .if1 .left), lt-leb _ _ (c .if2 .taken))
+
+returns-3 : tie.Need-returns-3
+unfolding checkNumber startRows firstOf
+returns-3 c = rw (le-leb _ _ (c .before .if1 .left), le-leb _ _ (c .if2 .left))
+
+pub start-spec : {M : Type 1} → statement M
+start-spec = tie.close (tie.spec returns returns-2 returns-3)

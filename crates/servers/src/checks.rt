@@ -1,0 +1,72 @@
+// The tests before start, add_server and reweight, in the order of document 01's numbers. They borrow the table's arrays, so
+// that none is copied.
+ghost use mathlib.Core.Path.{_≡_};
+ghost use Rattle.table.specs.Sound.{tableOf};
+ghost use Rattle.replies.specs.Refusal.{firstOf};
+ghost use Rattle.replies.specs.Reply.{checkNumber};
+ghost use Rattle.servers.specs.Servers.{startRows, addServerRows, reweightRows};
+use replies::Check;
+use replies::Refusal;
+use table::Shape;
+
+pub fn start(capacity: u32) -> Check
+    ensures { λ r. ⌜ checkNumber r ≡ firstOf (startRows capacity) ⌝ }
+{
+    if capacity < 1 {
+        return Check::Refused(Refusal::OutOfRange);
+    }
+    if capacity > 65536 {
+        return Check::Refused(Refusal::OutOfRange);
+    }
+    Check::Accepted
+}
+
+pub fn add_server<'a>(
+    shape: Shape,
+    columns: [&'a [u32; 256]; 4],
+    medium: &[u32],
+    weight: u32,
+) -> Check
+    ensures { λ r. ⌜ checkNumber r ≡ firstOf (addServerRows (tableOf shape (columns .entry)) (now (medium .entry)) weight) ⌝ }
+{
+    let capacity = shape.capacity;
+    let count = shape.count;
+    if !table::is_sound(shape, columns) {
+        return Check::Refused(Refusal::UnsoundTable);
+    }
+    if weight > capacity {
+        return Check::Refused(Refusal::OutOfRange);
+    }
+    if count == 256 {
+        return Check::Refused(Refusal::TooManyServers);
+    }
+    let entries = capacity as usize;
+    if medium.len() < medium::server_at(entries, count + 1) {
+        return Check::Refused(Refusal::ShortMedium);
+    }
+    if !medium::is_blank(medium, medium::server_at(entries, count), 3 * entries) {
+        return Check::Refused(Refusal::NotBlank);
+    }
+    Check::Accepted
+}
+
+pub fn reweight<'a>(shape: Shape, columns: [&'a [u32; 256]; 4], server: usize, weight: u32) -> Check
+    ensures { λ r. ⌜ checkNumber r ≡ firstOf (reweightRows (tableOf shape (columns .entry)) server weight) ⌝ }
+{
+    let capacity = shape.capacity;
+    let count = shape.count;
+    if !table::is_sound(shape, columns) {
+        return Check::Refused(Refusal::UnsoundTable);
+    }
+    if weight > capacity {
+        return Check::Refused(Refusal::OutOfRange);
+    }
+    if count <= server {
+        return Check::Refused(Refusal::NoSuchServer);
+    }
+    let used = columns[1];
+    if weight > capacity - used[server] {
+        return Check::Refused(Refusal::ExceedsFree);
+    }
+    Check::Accepted
+}

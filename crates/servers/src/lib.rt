@@ -1,0 +1,114 @@
+// Start, and the calls that change the servers: add_server, document 01's fit, and reweight, its weigh.
+mod checks;
+
+ghost use mathlib.Core.Path.{_≡_};
+ghost use Rattle.replies.specs.Reply.{replyOfCheck, replyOfServer};
+ghost use Rattle.servers.specs.Servers.{startReply, startTable, addServerReply, addServerTable, reweightReply, reweightTable};
+use replies::Check;
+use replies::ServerAnswer;
+use table::Shape;
+use table::Table;
+
+// An enum holds no array, so the table stands beside the answer.
+pub struct Started {
+    pub answer: Check,
+    pub table: Table,
+}
+
+pub struct Placed {
+    pub answer: ServerAnswer,
+    pub table: Table,
+}
+
+// A table of no server; a table of all zeros where the capacity is refused.
+pub fn start(capacity: u32) -> Started
+    ensures reply { λ r. ⌜ replyOfCheck (r .answer) ≡ startReply capacity ⌝ }
+    ensures table { λ r. ⌜ r .table ≡ startTable capacity ⌝ }
+{
+    let answer = checks::start(capacity);
+    match answer {
+        Check::Refused(_) => {
+            let zeros = table::empty(0);
+            Started {
+                answer,
+                table: zeros,
+            }
+        }
+        Check::Accepted => {
+            let empty = table::empty(capacity);
+            Started {
+                answer,
+                table: empty,
+            }
+        }
+    }
+}
+
+// One server more, of this weight. The medium is only read.
+pub fn add_server(table: Table, medium: &[u32], weight: u32) -> Placed
+    ensures reply { λ r. ⌜ replyOfServer (r .answer) ≡ addServerReply table (now (medium .entry)) weight ⌝ }
+    ensures table { λ r. ⌜ r .table ≡ addServerTable table (now (medium .entry)) weight ⌝ }
+{
+    let check = checks::add_server(
+        Shape {
+            capacity: table.capacity,
+            count: table.count,
+        },
+        [
+            &table.weights,
+            &table.used,
+            &table.numerators,
+            &table.denominators,
+        ],
+        medium,
+        weight,
+    );
+    match check {
+        Check::Refused(refusal) => Placed {
+            answer: ServerAnswer::Refused(refusal),
+            table,
+        },
+        Check::Accepted => {
+            let server = table.count;
+            let next = table::with_server(table, weight);
+            Placed {
+                answer: ServerAnswer::Server(server),
+                table: next,
+            }
+        }
+    }
+}
+
+// Another weight for a server. It has no medium.
+pub fn reweight(table: Table, server: usize, weight: u32) -> Placed
+    ensures reply { λ r. ⌜ replyOfServer (r .answer) ≡ reweightReply table server weight ⌝ }
+    ensures table { λ r. ⌜ r .table ≡ reweightTable table server weight ⌝ }
+{
+    let check = checks::reweight(
+        Shape {
+            capacity: table.capacity,
+            count: table.count,
+        },
+        [
+            &table.weights,
+            &table.used,
+            &table.numerators,
+            &table.denominators,
+        ],
+        server,
+        weight,
+    );
+    match check {
+        Check::Refused(refusal) => Placed {
+            answer: ServerAnswer::Refused(refusal),
+            table,
+        },
+        Check::Accepted => {
+            let next = table::with_weight(table, server, weight);
+            Placed {
+                answer: ServerAnswer::Server(server),
+                table: next,
+            }
+        }
+    }
+}

@@ -1,0 +1,24 @@
+// The text of daysheet: numbers read, ends of lines found, answers printed, over slices alone.
+mod print;
+mod read;
+
+pub use print::put_answer;
+pub use print::put_question;
+pub use print::put_reply;
+pub use read::has_two;
+pub use read::line_by;
+pub use read::line_end;
+pub use read::number_after;
+
+// A number and the position after it, or nothing that reads as one.
+pub enum Parsed {
+    Number(u32, usize),
+    Nothing,
+}
+
+// What a line asks for: a start; a call with its numbers, 1 to 5 as replay's run_call has them; or a line that can't be read so.
+pub enum Line {
+    Start(u32),
+    Call(u32, u32, u32),
+    Unreadable,
+}

@@ -1,0 +1,90 @@
+// Reading numbers, the line that a letter and its numbers make, and the ends of lines.
+ghost use mathlib.Core.Path.{_≡_};
+ghost use Prim.Native.Nat.{_≤_};
+ghost use lib.ListN.{length};
+ghost use Rattle.text.specs.Line.{parsedOf, numberAt, spaced, lineBy, hasTwo, endOf};
+use crate::Line;
+use crate::Parsed;
+
+// The number that begins at a position: 1 to 10 digits, below 2^32.
+fn number_at(line: &[u8], from: usize) -> Parsed
+    requires { ⌜ from ≤ length (now line) ⌝ }
+    ensures { λ r. ⌜ r ≡ parsedOf (numberAt (now (line .entry)) from) ⌝ }
+{
+    let mut value: u64 = 0;
+    let mut digits: usize = 0;
+    while from + digits < line.len() {
+        let b = line[from + digits];
+        if b < 48 {
+            break;
+        }
+        if b > 57 {
+            break;
+        }
+        if digits == 10 {
+            return Parsed::Nothing;
+        }
+        value = value * 10 + (b - 48) as u64;
+        digits += 1;
+    }
+    if digits == 0 {
+        return Parsed::Nothing;
+    }
+    if value >= 4294967296 {
+        return Parsed::Nothing;
+    }
+    Parsed::Number(value as u32, from + digits)
+}
+
+// The number after one space.
+pub fn number_after(line: &[u8], at: usize) -> Parsed
+    ensures { λ r. ⌜ r ≡ parsedOf (spaced (now (line .entry)) at) ⌝ }
+{
+    if line.len() <= at {
+        return Parsed::Nothing;
+    }
+    if line[at] != 32 {
+        return Parsed::Nothing;
+    }
+    number_at(line, at + 1)
+}
+
+// Where the line that begins at a position ends: at its LF, or at the end of the input.
+pub fn line_end(input: &[u8], from: usize) -> usize
+    requires { ⌜ from ≤ length (now input) ⌝ }
+    ensures { λ r. ⌜ r ≡ endOf (now (input .entry)) from ⌝ }
+{
+    let mut end = from;
+    while end < input.len() {
+        if input[end] == 10 {
+            break;
+        }
+        end += 1;
+    }
+    end
+}
+
+// The line of a letter and its numbers.
+pub fn line_by(letter: u8, first: u32, second: u32) -> Line
+    ensures { λ r. ⌜ r ≡ lineBy letter first second ⌝ }
+{
+    match letter {
+        83 => Line::Start(first),
+        70 => Line::Call(1, first, second),
+        71 => Line::Call(2, first, second),
+        87 => Line::Call(3, first, second),
+        68 => Line::Call(4, first, second),
+        76 => Line::Call(5, first, second),
+        _ => Line::Unreadable,
+    }
+}
+
+// Whether a line of this letter has a second number: G and W do.
+pub fn has_two(letter: u8) -> bool
+    ensures { λ r. ⌜ r ≡ hasTwo letter ⌝ }
+{
+    match letter {
+        71 | 87 => true,
+        _ => false,
+    }
+}

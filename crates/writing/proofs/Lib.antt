@@ -1,0 +1,5 @@
+pub mod Targets
+pub mod Accepted
+mod Planning
+mod NewEntry
+mod Done

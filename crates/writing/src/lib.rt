@@ -1,0 +1,96 @@
+// Write: a value and its id go to the write server, and earlier entries of the id are invalidated.
+mod checks;
+
+ghost use mathlib.Core.Path.{_≡_};
+ghost use Prim.Native.Nat.{_<_, _+_};
+ghost use lib.ListN.{length, set};
+ghost use Rattle.medium.specs.Word.{contentRange, idWord, valueWord};
+ghost use Rattle.table.specs.Sound.{tableOf};
+ghost use Rattle.replies.specs.Reply.{replyOfWrite};
+ghost use Rattle.writing.specs.Writing.{writeReply, writeTable, writeMedium};
+use replies::Refusal;
+use replies::WriteAnswer;
+use table::Shape;
+use table::Table;
+
+// What the tests before a write say: the server that it goes to, or the refusal.
+pub enum Plan {
+    To(usize),
+    Refused(Refusal),
+}
+
+pub struct Written {
+    pub answer: WriteAnswer,
+    pub table: Table,
+}
+
+// Burns the value word and then the id word of the entry that begins at `at`.
+fn enter(medium: &mut [u32], at: usize, id: u32, value: u32)
+    requires { ⌜ at + 1 < length (now medium) ⌝ }
+    requires { ⌜ value < contentRange ⌝ }
+    ensures { λ _. ⌜ now (medium .exit) ≡ set (set (now (medium .entry)) (at + 1) (valueWord value)) at (idWord id) ⌝ }
+{
+    medium[at + 1] = 1073741824 + value;
+    medium[at] = id;
+}
+
+// Write on a table whose arrays are borrowed: the value and the id go to the write server's next entry, then each earlier
+// live entry of the id on readable servers at or above it is invalidated. The caller counts the entry as used on the server
+// that is answered.
+pub fn write_in<'a>(
+    shape: Shape,
+    columns: [&'a [u32; 256]; 4],
+    medium: &mut [u32],
+    id: u32,
+    value: u32,
+) -> WriteAnswer
+    ensures reply { λ r. ⌜ replyOfWrite r ≡ writeReply (tableOf shape (columns .entry)) (now (medium .entry)) id value ⌝ }
+    ensures medium { λ _. ⌜ now (medium .exit) ≡ writeMedium (tableOf shape (columns .entry)) (now (medium .entry)) id value ⌝ }
+{
+    let capacity = shape.capacity;
+    let plan = checks::write(shape, columns, medium, id, value);
+    match plan {
+        Plan::Refused(refusal) => WriteAnswer::Refused(refusal),
+        Plan::To(server) => {
+            let used = columns[1];
+            let entry = used[server] as usize;
+            let at = medium::entry_at(capacity as usize, server, entry);
+            enter(medium, at, id, value);
+            let n = invalidation::invalidate(medium, shape, columns, id, server, medium::REPLACED);
+            WriteAnswer::Written(server, n)
+        }
+    }
+}
+
+// Write on a table by value.
+pub fn write(table: Table, medium: &mut [u32], id: u32, value: u32) -> Written
+    ensures reply { λ r. ⌜ replyOfWrite (r .answer) ≡ writeReply table (now (medium .entry)) id value ⌝ }
+    ensures table { λ r. ⌜ r .table ≡ writeTable table (now (medium .entry)) id value ⌝ }
+    ensures medium { λ _. ⌜ now (medium .exit) ≡ writeMedium table (now (medium .entry)) id value ⌝ }
+{
+    let answer = write_in(
+        Shape {
+            capacity: table.capacity,
+            count: table.count,
+        },
+        [
+            &table.weights,
+            &table.used,
+            &table.numerators,
+            &table.denominators,
+        ],
+        medium,
+        id,
+        value,
+    );
+    match answer {
+        WriteAnswer::Refused(_) => Written { answer, table },
+        WriteAnswer::Written(server, _) => {
+            let next = table::with_entry(table, server);
+            Written {
+                answer,
+                table: next,
+            }
+        }
+    }
+}
