@@ -8,7 +8,7 @@ use mathlib.Core.List.{List, _∷_}
 use native.Mathlib.Omega.{arith}
 use lib.ListN.{length}
 use lib.Dec.{leb, ltb, eqb}
-use borrow.Author.Tests.{leb-false, eqb-false, not-false}
+use borrow.Author.Tests.{leb-false, eqb-false}
 use Rattle.lists.specs.Below.{nth}
 use Rattle.lists.proofs.Tests.{byBool, true-not-false}
 use Rattle.placement.specs.Draw.{modulus, drawOf}
@@ -19,24 +19,29 @@ use Rattle.medium.specs.Entry.{serverAt, entryAt, blankRun}
 use Rattle.medium.specs.Burn.{burnAll, marksOver, invalidations}
 use Rattle.medium.proofs.Marks.{marksOver-cong}
 use Rattle.table.specs.declared.Table.{Table}
-use Rattle.table.specs.Sound.{weightOf, usedOf, sound, reads}
-use Rattle.table.specs.Upkeep.{withEntry}
-use Rattle.table.proofs.Upkeep.{Arrays, withServer-arrays, withWeight-arrays, withEntry-arrays}
-use Rattle.table.proofs.Soundness.{sound-facts}
-use Rattle.table.proofs.Agreement.{AgreeBelow, agree-sound, agree-withServer, agree-withWeight, agree-withEntry}
+use Rattle.table.specs.Parts.{weightOf, usedOf, reads}
+use Rattle.table.specs.Sound.{sound}
+use Rattle.upkeep.specs.Upkeep.{withEntry}
+use Rattle.table.proofs.Soundness.{Arrays, sound-facts}
+use Rattle.upkeep.proofs.Upkeep.{withServer-arrays, withWeight-arrays, withEntry-arrays}
+use Rattle.table.proofs.Agreement.{AgreeBelow, agree-sound}
+use Rattle.upkeep.proofs.KeptAgreeing.{agree-withServer, agree-withWeight, agree-withEntry}
 use Rattle.replies.specs.Refusal.{firstOf}
 use Rattle.replies.specs.declared.Reply.{Reply}
 use Rattle.replies.specs.Reply.{onServer}
-use Rattle.replies.proofs.Refusals.{passed, first-same, settle-both, reply-same}
+use Rattle.replies.proofs.Refusals.{more-same, first-same, settle-both, reply-same}
 use Rattle.lookup.specs.Search.{Search}
 use Rattle.lookup.specs.Opened.{lowest, opens, SameOpened}
-use Rattle.lookup.specs.Lookup.{short, lookupRows, lookupReply}
+use Rattle.checks.specs.Ready.{short, readyRows}
+use Rattle.checks.proofs.Passed.{ready-same, ready-numbered, ready-tests, ready-accepted}
+use Rattle.lookup.specs.Lookup.{lookupRows, lookupReply}
 use Rattle.lookup.proofs.Passed.{lookup-accepted}
 use Rattle.lookup.proofs.Searches.{reads-same}
 use Rattle.lookup.proofs.OpenedByValues.{same-met, opened-by-values}
+use Rattle.invalidation.specs.Marks.{marksFrom}
 use Rattle.deletion.specs.Deletion.{deleteRows, deleteMarks, deleteReply, deleteMedium}
 use Rattle.deletion.proofs.Done.{deleted-some}
-use Rattle.writing.specs.Writing.{target, writeRows, writeMarks, writeBurns, writeReply, writeTable, writeMedium}
+use Rattle.writing.specs.Writing.{target, entryRows, writeRows, writeMarks, writeBurns, writeReply, writeTable, writeMedium}
 use Rattle.writing.proofs.Accepted.{write-accepted}
 use Rattle.writing.proofs.Targets.{target-is}
 use Rattle.servers.specs.Servers.{addServerRows, addServerReply, addServerTable, reweightRows, reweightReply, reweightTable}
@@ -103,19 +108,18 @@ module _ (t u : Table) (g : AgreeBelow t u) where
       ap₂ (λ (c k : ℕ). entryAt c k (usedOf t (target t id))) (g .capacity) (same-target id)
       ∙ ap (entryAt (u .capacity) (target u id)) (same-used id l)
 
-  same-marks : (m : List ℕ) (id : ℕ) (p q : ℕ → Bool) → ((k : ℕ) → k < t .count → p k ≡ q k)
-      → marksOver (t .capacity) (usedOf t) m id p (t .count) ≡ marksOver (u .capacity) (usedOf u) m id q (u .count)
-  same-marks m id p q h =
-      marksOver-cong (t .capacity) (usedOf t) (usedOf u) m m id p q (t .count) h (g .used) (λ k j l i. record { idSame = refl; markSame = refl })
-      ∙ ap₂ (λ (c n : ℕ). marksOver c (usedOf u) m id q n) (g .capacity) (g .count)
+  same-marks : (m : List ℕ) (id from : ℕ) → marksFrom t m id from ≡ marksFrom u m id from
+  same-marks m id from =
+      marksOver-cong (t .capacity) (usedOf t) (usedOf u) m m id _ _ (t .count) (λ k l. ap (λ (b : Bool). leb from k && b) (same-reads id k l)) (g .used) (λ k j l i. record { idSame = refl; markSame = refl })
+      ∙ ap₂ (λ (c n : ℕ). marksOver c (usedOf u) m id (λ k. leb from k && reads u id k) n) (g .capacity) (g .count)
 
   write-marks : (m : List ℕ) (id : ℕ) → writeMarks t m id ≡ writeMarks u m id
   unfolding writeMarks
-  write-marks m id = same-marks m id _ _ (λ k l. ap₂ _&&_ (ap (λ (n : ℕ). leb n k) (same-target id)) (same-reads id k l))
+  write-marks m id = same-marks m id (target t id) ∙ ap (marksFrom u m id) (same-target id)
 
   delete-marks : (m : List ℕ) (id : ℕ) → deleteMarks t m id ≡ deleteMarks u m id
   unfolding deleteMarks
-  delete-marks m id = same-marks m id _ _ (same-reads id)
+  delete-marks m id = same-marks m id 0
 
   write-burns : (m : List ℕ) (id value : ℕ) → 0 < t .count → writeBurns t m id value ≡ writeBurns u m id value
   unfolding writeBurns
@@ -125,24 +129,20 @@ module _ (t u : Table) (g : AgreeBelow t u) where
       ∷ invalidations replaced marks)
       (same-entry id l) (write-marks m id)
 
+  ready-rows : (m : List ℕ) (outside : Bool) → firstOf (readyRows t m outside) ≡ firstOf (readyRows u m outside)
+  ready-rows m outside = ready-same t u m m outside (agree-sound t u g) (g .count) (same-short m)
+
   write-rows : (m : List ℕ) (id value : ℕ) → firstOf (writeRows t m id value) ≡ firstOf (writeRows u m id value)
-  unfolding writeRows
-  write-rows m id value =
-      first-same 1 _ _ _ _ same-sound (λ _.
-      first-same 2 _ _ _ _ refl (λ _.
-      first-same 3 _ _ _ _ (ap (λ (n : ℕ). eqb n 0) (g .count)) (λ e.
-      first-same 5 _ _ _ _ (same-short m) (λ _.
-      first-same 6 _ _ _ _ (ap₂ eqb (same-used id (some-server t e)) (g .capacity)) (λ _.
-      first-same 7 _ _ _ _ (rw (same-entry id (some-server t e))) (λ _. refl))))))
+  unfolding writeRows entryRows
+  write-rows m id value = more-same _ _ _ _ (ready-numbered t m _) (ready-numbered u m _) (ready-rows m _) (λ z.
+      let some = some-server t (ready-tests t m _ z .none) in
+      first-same 6 _ _ _ _ (ap₂ eqb (same-used id some) (g .capacity)) (λ _.
+      first-same 7 _ _ _ _ (rw (same-entry id some)) (λ _. refl)))
 
   delete-rows : (m : List ℕ) (id : ℕ) → firstOf (deleteRows t m id) ≡ firstOf (deleteRows u m id)
   unfolding deleteRows
-  delete-rows m id =
-      first-same 1 _ _ _ _ same-sound (λ _.
-      first-same 2 _ _ _ _ refl (λ _.
-      first-same 3 _ _ _ _ (ap (λ (n : ℕ). eqb n 0) (g .count)) (λ _.
-      first-same 5 _ _ _ _ (same-short m) (λ _.
-      first-same 8 _ _ _ _ (ap not (deleted-some t m id ∙ ap (λ (l : List ℕ). not (eqb (length l) 0)) (delete-marks m id) ∙ sym (deleted-some u m id))) (λ _. refl)))))
+  delete-rows m id = more-same _ _ _ _ (ready-numbered t m _) (ready-numbered u m _) (ready-rows m _) (λ _.
+      first-same 8 _ _ _ _ (ap not (deleted-some t m id ∙ ap (λ (l : List ℕ). not (eqb (length l) 0)) (delete-marks m id) ∙ sym (deleted-some u m id))) (λ _. refl))
 
   -- calls that leave the table
 
@@ -170,23 +170,15 @@ module _ (t u : Table) (g : AgreeBelow t u) where
   unfolding lookupReply lookupRows
   lookup-below m id = byBool (sound t)
       (λ s. opened-by-values t u m m id s (sym (agree-sound t u g) ∙ s) (same-servers m id))
-      (λ s. reply-same _ _ (first-same 1 _ _ _ _ same-sound (λ e. absurd (true-not-false (not-false _ e) s))) _ _
-      (λ z. absurd (true-not-false (not-false _ (passed 0 (not (sound t)) _ z .0)) s)))
+      (λ s. reply-same _ _ (ready-rows m _) _ _ (λ z. absurd (true-not-false (ready-accepted t m _ z .isSound) s)))
 
   opens-below : (m : List ℕ) (id k : ℕ) → k < t .count → lookupOpens t m id k ≡ lookupOpens u m id k
   unfolding lookupOpens opens lookupRows
-  opens-below m id k l = settle-both (lookupRows t m id) (lookupRows u m id) rows (_≡_ {A = Bool}) _ _ false false
+  opens-below m id k l = settle-both (lookupRows t m id) (lookupRows u m id) (ready-rows m _) (_≡_ {A = Bool}) _ _ false false
       (λ z.
       let s = lookup-accepted t m id z .isSound in
       ap₂ (λ (x : Search) (b : Bool). leb (lowest (x .met)) k && b) (same-met t u m m id s (sym (agree-sound t u g) ∙ s) (same-servers m id)) (same-reads id k l))
       refl
-    where
-      rows : firstOf (lookupRows t m id) ≡ firstOf (lookupRows u m id)
-      rows =
-          first-same 1 _ _ _ _ same-sound (λ _.
-          first-same 2 _ _ _ _ refl (λ _.
-          first-same 3 _ _ _ _ (ap (λ (n : ℕ). eqb n 0) (g .count)) (λ _.
-          first-same 5 _ _ _ _ (same-short m) (λ _. refl))))
 
   pub batch-below : (m ids : List ℕ) → batchReply t m ids ≡ batchReply u m ids
   unfolding batchReply openedAt

@@ -3,13 +3,12 @@
 -- Assumes nothing.
 use Prim.Native.Nat.{ℕ, zero, suc, _*_, _≤_, _<_}
 use mathlib.Core.Path.{_≡_}
-use mathlib.Core.Bool.{Bool, true, cond, not}
+use mathlib.Core.Bool.{Bool, true, cond}
 use mathlib.Core.List.{List, []}
 use mathlib.Core.Option.{Option, none, some}
 use native.Mathlib.Omega.{arith}
 use lib.ListN.{length, length-append}
 use lib.Dec.{eqb}
-use borrow.Author.Tests.{not-false}
 use Rattle.lists.specs.Below.{nth}
 use Rattle.lists.proofs.Tests.{byBool}
 use Rattle.lists.proofs.Below.{countBelow-le}
@@ -17,12 +16,14 @@ use Rattle.medium.specs.Word.{tagOf}
 use Rattle.medium.specs.Entry.{valueAt}
 use Rattle.medium.specs.Burn.{marksOn, marksOver}
 use Rattle.table.specs.declared.Table.{Table}
-use Rattle.table.specs.Sound.{usedOf, sound}
+use Rattle.table.specs.Parts.{usedOf}
+use Rattle.table.specs.Sound.{sound}
 use Rattle.table.proofs.Soundness.{sound-facts}
 use Rattle.replies.specs.Refusal.{Row, firstOf}
 use Rattle.replies.specs.declared.Reply.{Reply}
 use Rattle.replies.specs.Reply.{onServer, replyBy}
-use Rattle.replies.proofs.Refusals.{settle-either, passed}
+use Rattle.replies.proofs.Refusals.{settle-either}
+use Rattle.checks.proofs.Passed.{ready-accepted}
 use Rattle.lookup.specs.Search.{Place, searchFor}
 use Rattle.lookup.specs.Lookup.{lookupRows, metReply, lookupReply}
 use Rattle.lookup.specs.Opened.{opens}
@@ -30,6 +31,7 @@ use Rattle.lookup.proofs.Passed.{lookup-accepted}
 use Rattle.lookup.proofs.Searches.{opened-are}
 use Rattle.invalidation.proofs.Invalidating.{length-marksOn}
 use Rattle.deletion.specs.Deletion.{deleteRows, deleteMarks, deleteReply}
+use Rattle.deletion.proofs.Done.{delete-ready}
 use Rattle.writing.specs.Writing.{target, writeRows, writeMarks, writeReply}
 use Rattle.writing.proofs.Accepted.{write-accepted}
 use Rattle.servers.specs.Servers.{addServerRows, addServerReply, reweightRows, reweightReply}
@@ -82,8 +84,8 @@ module _ (t : Table) where
       on-small (target t id) _ (omega arith) (marks-small m id _ (a .isSound)))
 
   pub delete-small : (m : List ℕ) (id : ℕ) → Small (deleteReply t m id)
-  unfolding deleteReply deleteMarks deleteRows
-  delete-small m id = reply-small (deleteRows t m id) _ (λ z. on-small 0 _ (omega arith) (marks-small m id _ (not-false _ (passed 0 (not (sound t)) _ z .0))))
+  unfolding deleteReply deleteMarks
+  delete-small m id = reply-small (deleteRows t m id) _ (λ z. on-small 0 _ (omega arith) (marks-small m id _ (ready-accepted t m _ (delete-ready t m id z) .isSound)))
 
   met-small : (m : List ℕ) (n : ℕ) → n < 4294967296 → (o : Option Place) → Small (metReply (t .capacity) m n o)
   unfolding metReply

@@ -14,11 +14,12 @@ use Rattle.lists.specs.Below.{nth, someBelow, countBelow, setBelow}
 use Rattle.lists.proofs.Tests.{byBool}
 use Rattle.lists.proofs.Below.{length-setBelow, setBelow-at, setBelow-above, someBelow-none, someBelow-cong, countBelow-none, countBelow-le, nth-zeros}
 use Rattle.table.specs.declared.Table.{Table}
-use Rattle.table.specs.Sound.{usedOf, readP}
+use Rattle.table.specs.Parts.{usedOf, readP}
 use Rattle.replies.specs.Refusal.{firstOf, settle}
 use Rattle.replies.proofs.Refusals.{settle-yes, settle-no}
-use Rattle.lookup.specs.Lookup.{lookupRows, lookupReply}
-use Rattle.lookup.proofs.Passed.{Ready, lookup-accepted}
+use Rattle.checks.specs.Ready.{readyRows}
+use Rattle.lookup.specs.Lookup.{lookupReply}
+use Rattle.checks.proofs.Passed.{Ready, ready-accepted}
 use Rattle.batch.specs.declared.Progress.{Progress}
 use Rattle.batch.specs.declared.Parts.{Parts}
 use Rattle.batch.specs.declared.Batch.{Batch}
@@ -64,12 +65,12 @@ module _ (t : Table) (m ids : List ℕ) where
     pub few : n ≤ 256
     pub long : (length (parts .refusals) ≡ 256) × (length (parts .values) ≡ 256) × (length (parts .opened) ≡ 256) × (length (parts .ends) ≡ 256)
 
-  first-parts : n ≤ 256 → PartsFrom (settle (lookupRows t m 0) (t .count) 0) (firstParts (firstOf (lookupRows t m 0)) ids n)
+  first-parts : n ≤ 256 → PartsFrom (settle (readyRows t m false) (t .count) 0) (firstParts (firstOf (readyRows t m false)) ids n)
   unfolding firstParts filled
   first-parts few = record {
     few = few;
     part = λ i l.
-        rw (setBelow-at (λ j. firstRefusal (firstOf (lookupRows t m 0)) (nth ids j)) n (replicate 256 0) (rw length-replicate few) i l, nth-zeros 256 i)
+        rw (setBelow-at (λ j. firstRefusal (firstOf (readyRows t m false)) (nth ids j)) n (replicate 256 0) (rw length-replicate few) i l, nth-zeros 256 i)
         (first-done t m (nth ids i));
     rest = λ i l. (setBelow-above _ n (replicate 256 0) i l ∙ nth-zeros 256 i, nth-zeros 256 i, nth-zeros 256 i);
     long = (length-setBelow _ n (replicate 256 0) ∙ zeros, zeros, zeros, zeros);
@@ -152,20 +153,20 @@ module _ (t : Table) (m ids : List ℕ) where
     }
 
   -- where the tests refuse id 0 they refuse every id, and no server is opened for any
-  none-opened : firstOf (lookupRows t m 0) ≢ 0 → (i k : ℕ) → openedAt t m ids i k ≡ false
+  none-opened : firstOf (readyRows t m false) ≢ 0 → (i k : ℕ) → openedAt t m ids i k ≡ false
   unfolding openedAt
   none-opened z i k = refused-opens t m (nth ids i) z k
 
   -- the servers that the code goes through: all, or none where no id comes to a search; either way nothing differs
   abbrev pub servers : ℕ
-  servers = settle (lookupRows t m 0) (t .count) 0
+  servers = settle (readyRows t m false) (t .count) 0
 
   servers-cases : (P : ℕ → Type 0) → P (t .count) → (((i k : ℕ) → openedAt t m ids i k ≡ false) → P 0) → P servers
-  servers-cases P all none = byBool (eqb (firstOf (lookupRows t m 0)) 0)
-      (λ e. subst P (sym (settle-yes (lookupRows t m 0) (t .count) 0 (eqb-true (firstOf (lookupRows t m 0)) 0 e))) all)
+  servers-cases P all none = byBool (eqb (firstOf (readyRows t m false)) 0)
+      (λ e. subst P (sym (settle-yes (readyRows t m false) (t .count) 0 (eqb-true (firstOf (readyRows t m false)) 0 e))) all)
       (λ e.
-      let z = eqb-false (firstOf (lookupRows t m 0)) 0 e in
-      subst P (sym (settle-no (lookupRows t m 0) (t .count) 0 z)) (none (none-opened z)))
+      let z = eqb-false (firstOf (readyRows t m false)) 0 e in
+      subst P (sym (settle-no (readyRows t m false) (t .count) 0 z)) (none (none-opened z)))
 
   servers-mounts : countBelow (λ k. someBelow (λ i. openedAt t m ids i k) n) servers ≡ mounts (openedAt t m ids) n (t .count)
   unfolding mounts countBelow
@@ -192,15 +193,15 @@ module _ (t : Table) (m ids : List ℕ) where
     servers-low i b = servers-cases (λ (c : ℕ). nth (parts .ends) i ≤ c)
         (tally-low (lookupOpens t m (nth ids i)) (t .count) _ _ (done .part i b .tally))
         (λ h.
-        let e = last-ends parts done .nowhere i b ∙ rw (someBelow-none (openedAt t m ids i) (t .count) (λ k c. h i k)) in
+        let e : eqb (nth (parts .ends) i) 0 ≡ true = last-ends parts done .nowhere i b ∙ rw (someBelow-none (openedAt t m ids i) (t .count) (λ k c. h i k)) in
         omega (arith, eqb-true (nth (parts .ends) i) 0 e))
 
   servers-few : servers ≤ 256
-  servers-few = byBool (eqb (firstOf (lookupRows t m 0)) 0)
+  servers-few = byBool (eqb (firstOf (readyRows t m false)) 0)
       (λ e.
-      let z = eqb-true (firstOf (lookupRows t m 0)) 0 e in
-      omega (arith, settle-yes (lookupRows t m 0) (t .count) 0 z, lookup-accepted t m 0 z .inside .few))
-      (λ e. omega (arith, settle-no (lookupRows t m 0) (t .count) 0 (eqb-false (firstOf (lookupRows t m 0)) 0 e)))
+      let z = eqb-true (firstOf (readyRows t m false)) 0 e in
+      omega (arith, settle-yes (readyRows t m false) (t .count) 0 z, ready-accepted t m false z .inside .few))
+      (λ e. omega (arith, settle-no (readyRows t m false) (t .count) 0 (eqb-false (firstOf (readyRows t m false)) 0 e)))
 
   -- a batch that has the servers from k on behind it, and has opened `mounted` of them
   pub record BatchFrom (k : ℕ) (parts : Parts) (mounted : ℕ) : Type 0 where
@@ -208,7 +209,7 @@ module _ (t : Table) (m ids : List ℕ) where
     pub below : k ≤ servers
     pub counted : mounted + countBelow (λ j. someBelow (λ i. openedAt t m ids i j) n) k ≡ mounts (openedAt t m ids) n (t .count)
 
-  pub batch-start : n ≤ 256 → (number s : ℕ) → number ≡ firstOf (lookupRows t m 0) → s ≡ servers
+  pub batch-start : n ≤ 256 → (number s : ℕ) → number ≡ firstOf (readyRows t m false) → s ≡ servers
       → (parts : Parts) → parts ≡ firstParts number ids n → BatchFrom s parts 0
   batch-start few number s a b parts e = rw (e, a, b) (record { done = first-parts few; below = omega arith; counted = omega (arith, servers-mounts) })
 
@@ -219,11 +220,11 @@ module _ (t : Table) (m ids : List ℕ) where
 
   -- a server that is still to come is there, and so are all
   pub ready-there : (k : ℕ) → k < servers → (k < t .count) × Ready t m
-  ready-there k l = byBool (eqb (firstOf (lookupRows t m 0)) 0)
+  ready-there k l = byBool (eqb (firstOf (readyRows t m false)) 0)
       (λ e.
-      let z = eqb-true (firstOf (lookupRows t m 0)) 0 e in
-      (omega (arith, settle-yes (lookupRows t m 0) (t .count) 0 z), lookup-accepted t m 0 z))
-      (λ e. absurd (omega (arith, settle-no (lookupRows t m 0) (t .count) 0 (eqb-false (firstOf (lookupRows t m 0)) 0 e))))
+      let z = eqb-true (firstOf (readyRows t m false)) 0 e in
+      (omega (arith, settle-yes (readyRows t m false) (t .count) 0 z), ready-accepted t m false z))
+      (λ e. absurd (omega (arith, settle-no (readyRows t m false) (t .count) 0 (eqb-false (firstOf (readyRows t m false)) 0 e))))
 
   -- server k is next: r is what the code's test says, whether it is opened
   module _ (k : ℕ) (parts : Parts) (mounted : ℕ) (from : BatchFrom (suc k) parts mounted)

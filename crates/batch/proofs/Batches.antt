@@ -17,7 +17,8 @@ use Rattle.placement.specs.Rule.{readable, takes}
 use Rattle.medium.specs.Word.{contentRange, tagOf}
 use Rattle.medium.specs.Entry.{valueAt}
 use Rattle.table.specs.declared.Table.{Table}
-use Rattle.table.specs.Sound.{usedOf, readP, sound, reads}
+use Rattle.table.specs.Parts.{usedOf, readP, reads}
+use Rattle.table.specs.Sound.{sound}
 use Rattle.replies.specs.Refusal.{firstOf, settle}
 use Rattle.replies.specs.declared.Reply.{Reply}
 use Rattle.replies.specs.Reply.{refused, replyBy}
@@ -25,7 +26,8 @@ use Rattle.replies.proofs.Refusals.{settle-yes, settle-no}
 use Rattle.replies.proofs.Answers.{reply-done}
 use Rattle.lookup.specs.Search.{Place, Search, lastLive, opening, searchBelow, searchFor}
 use Rattle.lookup.specs.Opened.{lowest, opens}
-use Rattle.lookup.specs.Lookup.{short, lookupRows, metReply, lookupReply}
+use Rattle.checks.specs.Ready.{readyRows, short}
+use Rattle.lookup.specs.Lookup.{lookupRows, metReply, lookupReply}
 use Rattle.lookup.proofs.Searches.{search-cases, search-low, opened-are}
 use Rattle.batch.specs.declared.Progress.{Progress}
 use Rattle.batch.specs.Batch.{lookupOpens}
@@ -118,29 +120,29 @@ module _ (t : Table) (m : List ℕ) (id : ℕ) where
       ∙ countBelow-cong (opens t m id) (lookupOpens t m id) (t .count) (λ k l. sym (opens-ready z k))))
       (λ e. rw e (sym (countBelow-none (lookupOpens t m id) (t .count) (λ k l. opens-none (eqb-false (firstOf (lookupRows t m id)) 0 e) k))))
 
-  -- before the first server: what the tests say of id 0 tells what they say of this one
-  first-number : firstRefusal (firstOf (lookupRows t m 0)) id ≡ absentSoFar (firstOf (lookupRows t m id))
-  unfolding lookupRows firstOf firstRefusal number
+  -- before the first server: what the tests say of an id in range tells what they say of this one
+  first-number : firstRefusal (firstOf (readyRows t m false)) id ≡ absentSoFar (firstOf (lookupRows t m id))
+  unfolding lookupRows readyRows firstOf firstRefusal number
   first-number = tests-say (not (sound t)) (leb contentRange id) (eqb (t .count) 0) (short t m) .0
 
-  ready-alike : firstOf (lookupRows t m id) ≡ 0 → firstOf (lookupRows t m 0) ≡ 0
-  unfolding lookupRows firstOf number
+  ready-alike : firstOf (lookupRows t m id) ≡ 0 → firstOf (readyRows t m false) ≡ 0
+  unfolding lookupRows readyRows firstOf number
   ready-alike = tests-say (not (sound t)) (leb contentRange id) (eqb (t .count) 0) (short t m) .1
 
-  pub refused-opens : firstOf (lookupRows t m 0) ≢ 0 → (k : ℕ) → lookupOpens t m id k ≡ false
+  pub refused-opens : firstOf (readyRows t m false) ≢ 0 → (k : ℕ) → lookupOpens t m id k ≡ false
   refused-opens z k = opens-none (λ e. z (ready-alike e)) k
 
   not-absent : firstOf (lookupRows t m id) ≢ 8
-  unfolding lookupRows firstOf number
+  unfolding lookupRows readyRows firstOf number
   not-absent = tests-say (not (sound t)) (leb contentRange id) (eqb (t .count) 0) (short t m) .2
 
-  pub first-done : DoneFrom (settle (lookupRows t m 0) (t .count) 0)
-      (record { refusal = firstRefusal (firstOf (lookupRows t m 0)) id; value = 0; opened = 0; end = 0 })
+  pub first-done : DoneFrom (settle (readyRows t m false) (t .count) 0)
+      (record { refusal = firstRefusal (firstOf (readyRows t m false)) id; value = 0; opened = 0; end = 0 })
   unfolding absentSoFar searchFor lookupReply replyBy
   first-done = rw first-number (byBool (eqb (firstOf (lookupRows t m id)) 0)
       (λ e.
       let z = eqb-true (firstOf (lookupRows t m id)) 0 e in
-      rw (e, settle-yes (lookupRows t m 0) (t .count) 0 (ready-alike z)) (record {
+      rw (e, settle-yes (readyRows t m false) (t .count) 0 (ready-alike z)) (record {
         tally = tally-start (lookupOpens t m id) (t .count);
         status = inl (record { absent = refl; noValue = refl; ready = z; left = left });
       }))

@@ -28,7 +28,7 @@ newestBy (some j) = Entry j
 unfoldable pub absentSoFar : ℕ → ℕ
 absentSoFar number = cond (eqb number 0) 8 number
 
--- the refusal of an id before any server is opened. `number` is what the tests say of id 0, which is in range; for another id they
+-- the refusal of an id before any server is opened. `number` is what the tests say of an id in range; for another id they
 -- differ by its range alone, right after the table's soundness
 unfoldable pub firstRefusal : ℕ → ℕ → ℕ
 firstRefusal number id = cond (eqb number 1) 1 (cond (leb contentRange id) 2 (absentSoFar number))

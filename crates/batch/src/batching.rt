@@ -16,7 +16,7 @@ use placement::Fraction;
 use table::Shape;
 use table::Table;
 
-// The refusal of an id before any server is opened, by what the tests say of id 0.
+// The refusal of an id before any server is opened, by what the tests say of an id in range.
 fn first_refusal(number: u32, id: u32) -> u32
     ensures { λ r. ⌜ r ≡ firstRefusal number id ⌝ }
 {
@@ -181,7 +181,7 @@ pub fn lookup_batch(table: Table, medium: &[u32], ids: &[u32]) -> Batch
     if n > 256 {
         return refused_batch(2);
     }
-    let number = replies::check_number(lookup::ready(
+    let number = replies::check_number(checks::ready(
         Shape {
             capacity: table.capacity,
             count: table.count,
@@ -193,7 +193,7 @@ pub fn lookup_batch(table: Table, medium: &[u32], ids: &[u32]) -> Batch
             &table.denominators,
         ],
         medium,
-        0,
+        false,
     ));
     let servers = if number == 0 { table.count } else { 0 };
     let mut parts = begin(ids, number);

@@ -2,19 +2,19 @@
 -- the medium that it leaves. t is the table and m the medium as lent.
 use Prim.Native.Nat.{ℕ}
 use mathlib.Core.Bool.{Bool, true, false, not}
-use mathlib.Core.List.{List, [], _∷_}
+use mathlib.Core.List.{List, [], _∷_, _++_}
 use mathlib.Core.Option.{Option, none, some}
 use lib.ListN.{length}
-use lib.Dec.{leb, eqb}
+use lib.Dec.{leb}
 use Rattle.medium.specs.Word.{contentRange, deleted}
-use Rattle.medium.specs.Burn.{burnAll, marksOver, invalidations}
+use Rattle.medium.specs.Burn.{burnAll, invalidations}
 use Rattle.table.specs.declared.Table.{Table}
-use Rattle.table.specs.Sound.{usedOf, sound, reads}
 use Rattle.replies.specs.Refusal.{Row, _when_, settle}
 use Rattle.replies.specs.declared.Reply.{Reply}
 use Rattle.replies.specs.Reply.{onServer, replyBy}
+use Rattle.checks.specs.Ready.{readyRows}
 use Rattle.lookup.specs.Search.{Place, searchFor}
-use Rattle.lookup.specs.Lookup.{short}
+use Rattle.invalidation.specs.Marks.{marksFrom}
 
 unfoldable pub isMet : Option Place → Bool
 isMet none = false
@@ -22,16 +22,12 @@ isMet (some p) = true
 
 unfoldable pub deleteRows : Table → List ℕ → ℕ → List Row
 deleteRows t m id =
-    1 when not (sound t)
-    ∷ 2 when leb contentRange id
-    ∷ 3 when eqb (t .count) 0
-    ∷ 5 when short t m
-    ∷ 8 when not (isMet (searchFor t m id .met))
-    ∷ []
+    readyRows t m (leb contentRange id)
+    ++ (8 when not (isMet (searchFor t m id .met)) ∷ [])
 
--- the marks of every live entry on every readable server
+-- the marks of every live entry on every readable server, from server 0 up
 unfoldable pub deleteMarks : Table → List ℕ → ℕ → List ℕ
-deleteMarks t m id = marksOver (t .capacity) (usedOf t) m id (reads t id) (t .count)
+deleteMarks t m id = marksFrom t m id 0
 
 unfoldable pub deleteReply : Table → List ℕ → ℕ → Reply
 deleteReply t m id = replyBy (deleteRows t m id) (onServer 0 (length (deleteMarks t m id)))

@@ -1,6 +1,6 @@
 // Delete: every live entry of an id on every readable server is invalidated.
 ghost use mathlib.Core.Path.{_≡_};
-ghost use Rattle.table.specs.Sound.{tableOf};
+ghost use Rattle.table.specs.Parts.{tableOf};
 ghost use Rattle.replies.specs.Reply.{replyOfDelete};
 ghost use Rattle.deletion.specs.Deletion.{deleteReply, deleteMedium};
 use replies::Check;
@@ -19,7 +19,7 @@ pub fn delete_in<'a>(
     ensures reply { λ r. ⌜ replyOfDelete r ≡ deleteReply (tableOf shape (columns .entry)) (now (medium .entry)) id ⌝ }
     ensures medium { λ _. ⌜ now (medium .exit) ≡ deleteMedium (tableOf shape (columns .entry)) (now (medium .entry)) id ⌝ }
 {
-    let check = lookup::ready(shape, columns, medium, id);
+    let check = checks::ready(shape, columns, medium, medium::CONTENT_RANGE <= id);
     if let Check::Refused(refusal) = check {
         return DeleteAnswer::Refused(refusal);
     }

@@ -20,10 +20,11 @@ use Rattle.medium.specs.Entry.{serverAt, entryAt, bears, blankRun}
 use Rattle.medium.proofs.Places.{server-le, entry-in, entry-above, server-next}
 use Rattle.medium.proofs.Entries.{bears-id, blank-run}
 use Rattle.table.specs.declared.Table.{Table}
-use Rattle.table.specs.Sound.{weightOf, usedOf, readP}
-use Rattle.table.specs.Upkeep.{withServer}
-use Rattle.table.proofs.Upkeep.{ServerAdded, withServer-is}
-use Rattle.table.proofs.Soundness.{sound-facts, withServer-arrays, withServer-sound}
+use Rattle.table.specs.Parts.{weightOf, usedOf, readP}
+use Rattle.upkeep.specs.Upkeep.{withServer}
+use Rattle.upkeep.proofs.Upkeep.{ServerAdded, withServer-is, withServer-arrays}
+use Rattle.table.proofs.Soundness.{sound-facts}
+use Rattle.upkeep.proofs.KeptSound.{withServer-sound}
 use Rattle.replies.specs.Refusal.{firstOf}
 use Rattle.replies.proofs.Refusals.{passed, settle-yes, settle-no}
 use Rattle.servers.specs.Servers.{addServerRows, addServerReply, addServerTable}

@@ -20,18 +20,19 @@ use Rattle.medium.specs.Burn.{marksOver}
 use Rattle.medium.proofs.Entries.{live-i, live-used, live-bears}
 use Rattle.medium.proofs.Marks.{marksOver-cong}
 use Rattle.table.specs.declared.Table.{Table}
-use Rattle.table.specs.Sound.{weightOf, usedOf, readP, sound, reads}
+use Rattle.table.specs.Parts.{weightOf, usedOf, readP, reads}
+use Rattle.table.specs.Sound.{sound}
 use Rattle.table.proofs.Soundness.{Arrays}
 use Rattle.replies.specs.Refusal.{Row, firstOf}
 use Rattle.replies.specs.declared.Reply.{Reply}
 use Rattle.replies.specs.Reply.{refused, replyBy}
-use Rattle.replies.proofs.Refusals.{settle-yes, settle-no}
+use Rattle.replies.proofs.Refusals.{settle-yes, settle-no, numbered}
+use Rattle.checks.specs.Ready.{short, readyRows}
 use Rattle.lookup.specs.Search.{Place, searchFor}
-use Rattle.lookup.specs.Lookup.{short}
 use Rattle.lookup.proofs.Searches.{met-some, met-none}
 use Rattle.writing.specs.Writing.{target}
 use Rattle.history.specs.Call.{compared}
-use Rattle.history.specs.Ledger.{Ledger, Entered, enterBy, put, usedBy, standing, range, shortL, targetL}
+use Rattle.history.specs.Ledger.{Ledger, Entered, enterBy, put, usedBy, standing, range, shortL, readyRowsL, targetL}
 use Rattle.history.proofs.Tops.{TopAt, top-same}
 use Rattle.history.proofs.Events.{placeOf}
 use Rattle.history.proofs.Entering.{entered}
@@ -82,15 +83,23 @@ settled L rows rowsL same done doneL t m accepts refuses = entered (Step (replyB
     let f : (firstOf rows ≡ 0 → ⊥) = λ z. n (sym same ∙ z) in
     rw (settle-no rows done (refused (firstOf rows) 0) f) (record { alike = rw same; agrees = refuses f }))
 
+pub ledger-numbered : (L : Ledger) (outside : Bool) → numbered (readyRowsL L outside) ≡ true
+unfolding readyRowsL numbered
+ledger-numbered L outside = refl
+
 module _ {t : Table} {m : List ℕ} {L : Ledger} (A : Agree t m L) where
   -- the same tests
   pub same-address : (k n : ℕ) → k ≡ n → serverAt (t .capacity) k ≡ 3 * L .capacity * n
   unfolding serverAt
   same-address k n e = ap₂ (λ (c k : ℕ). 3 * c * k) (A .capacity) e
 
-  pub same-short : short t m ≡ shortL L
+  same-short : short t m ≡ shortL L
   unfolding short shortL
   same-short = ap₂ ltb (A .words) (same-address (t .count) (L .servers) (A .count))
+
+  pub same-ready : (outside : Bool) → firstOf (readyRows t m outside) ≡ firstOf (readyRowsL L outside)
+  unfolding firstOf readyRows readyRowsL
+  same-ready outside = rw (A .isSound, ap (λ (c : ℕ). eqb c 0) (A .count), same-short)
 
   pub same-target : (id : ℕ) → target t id ≡ targetL L id
   unfolding target targetL writeServer

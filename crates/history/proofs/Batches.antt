@@ -28,10 +28,10 @@ lowest-from (some x) = refl
 module _ {t : Table} {m : List ℕ} {L : Ledger} (A : Agree t m L) where
   -- a lookup opens the same servers
   same-opens : (id k : ℕ) → k < t .count → lookupOpens t m id k ≡ opensL L id k
-  unfolding lookupOpens opensL opens lookupRows
+  unfolding lookupOpens opensL opens
   same-opens id k l = settle-both (lookupRows t m id) (lookupRowsL L id) (same-rows A id) (_≡_ {A = Bool}) _ _ false false
       (λ z.
-      ap₂ (λ (from : ℕ) (b : Bool). leb from k && b) (ap lowest (same-met A id (in-range _ id _ z)) ∙ lowest-from (standing (L .events) id)) (same-reads A id k l))
+      ap₂ (λ (from : ℕ) (b : Bool). leb from k && b) (ap lowest (same-met A id (in-range t m id z)) ∙ lowest-from (standing (L .events) id)) (same-reads A id k l))
       refl
 
   pub same-batch : (ids : List ℕ) → batchReply t m ids ≡ batchL L ids

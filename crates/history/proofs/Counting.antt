@@ -9,7 +9,7 @@ use borrow.Author.Tests.{eqb-true, ne-eqb}
 use Rattle.lists.specs.Below.{countBelow, total}
 use Rattle.lists.proofs.Tests.{byBool}
 use Rattle.lists.proofs.Below.{total-cong, countBelow-le, total-mono}
-use Rattle.table.specs.Sound.{usedOf}
+use Rattle.table.specs.Parts.{usedOf}
 use Rattle.history.specs.Machine.{State, liveForItsId, liveEntries}
 use Rattle.history.specs.Ledger.{Event, wrote, deleted, Ledger, usedBy, writes}
 use Rattle.history.proofs.Agree.{Agree}

@@ -1,28 +1,30 @@
 -- A delete on both sides.
 -- Assumes nothing.
 use Prim.Native.Nat.{ℕ, _<_}
+use mathlib.Core.Bool.{not}
 use mathlib.Core.Path.{_≡_, refl, ap, _∙_}
 use mathlib.Core.List.{List}
 use mathlib.Core.Option.{Option, none, some}
-use lib.Dec.{leb, eqb}
-use borrow.Author.Tests.{leb-false}
-use Rattle.lists.proofs.Tests.{byBool}
+use lib.Dec.{leb}
 use Rattle.placement.specs.Rule.{readable}
 use Rattle.medium.specs.Word.{deleted as deletedMark}
 use Rattle.medium.specs.Burn.{burnAll, invalidations}
 use Rattle.medium.proofs.Burns.{length-burnAll}
 use Rattle.table.specs.declared.Table.{Table}
-use Rattle.table.specs.Sound.{reads}
+use Rattle.table.specs.Parts.{reads}
 use Rattle.replies.specs.Refusal.{firstOf}
-use Rattle.replies.proofs.Refusals.{settle-yes, settle-no}
+use Rattle.replies.proofs.Refusals.{settle-yes, settle-no, first-same, more-same}
 use Rattle.lookup.specs.Search.{searchFor}
+use Rattle.checks.proofs.Passed.{ready-numbered}
+use Rattle.lookup.specs.Lookup.{lookupRows}
 use Rattle.lookup.proofs.Passed.{in-range}
+use Rattle.deletion.proofs.Done.{delete-all, delete-ready}
 use Rattle.deletion.specs.Deletion.{isMet, deleteRows, deleteMarks, deleteReply, deleteMedium}
 use Rattle.history.specs.Call.{delete, compared}
 use Rattle.history.specs.Ledger.{deleted, Ledger, Standing, usedBy, standing, isStanding, range, withEvent, deleteRowsL, enter}
 use Rattle.history.proofs.Events.{placeOf}
 use Rattle.history.proofs.Deleting.{afterDelete, delete-holds}
-use Rattle.history.proofs.Agree.{Agree, Step, settled, same-short, same-reads, same-marks, same-met}
+use Rattle.history.proofs.Agree.{Agree, Step, settled, same-ready, ledger-numbered, same-reads, same-marks, same-met}
 
 module _ {t : Table} {m : List ℕ} {L : Ledger} (A : Agree t m L) (id : ℕ) where
   same-found : id < range → isMet (searchFor t m id .met) ≡ isStanding (standing (L .events) id)
@@ -34,19 +36,17 @@ module _ {t : Table} {m : List ℕ} {L : Ledger} (A : Agree t m L) (id : ℕ) wh
       go (some x) = refl
 
   pub same-rows : firstOf (deleteRows t m id) ≡ firstOf (deleteRowsL L id)
-  unfolding firstOf deleteRows deleteRowsL
-  same-rows = rw (A .isSound, ap (λ (c : ℕ). eqb c 0) (A .count), same-short A) (byBool (leb range id)
-      (λ d. rw d)
-      (λ d. rw (d, same-found (leb-false range id d))))
+  unfolding deleteRows deleteRowsL lookupRows
+  same-rows = more-same _ _ _ _ (ready-numbered t m _) (ledger-numbered L _) (same-ready A (leb range id)) (λ z.
+      first-same 8 _ _ _ _ (ap not (same-found (in-range t m id z))) (λ _. refl))
 
   pub accepted-id : firstOf (deleteRows t m id) ≡ 0 → id < range
-  unfolding deleteRows
-  accepted-id z = in-range _ id _ z
+  unfolding lookupRows
+  accepted-id z = in-range t m id (delete-ready t m id z)
 
   -- the medium that an accepted delete leaves
   pub delete-medium : burnAll m (invalidations deletedMark (deleteMarks t m id)) ≡ afterDelete (t .capacity) (t .count) (L .greatest) (L .events) m id
-  unfolding deleteMarks
-  delete-medium = ap (λ (marks : List ℕ). burnAll m (invalidations deletedMark marks)) (same-marks A id (reads t id) (readable (L .greatest) id) (same-reads A id))
+  delete-medium = ap (λ (marks : List ℕ). burnAll m (invalidations deletedMark marks)) (delete-all t m id ∙ same-marks A id (reads t id) (readable (L .greatest) id) (same-reads A id))
 
   agrees : id < range → Agree t (burnAll m (invalidations deletedMark (deleteMarks t m id))) (withEvent L (deleted id))
   unfolding withEvent usedBy

@@ -13,7 +13,7 @@ use Rattle.medium.specs.Word.{deleted as deletedMark}
 use Rattle.medium.specs.Entry.{bears, live}
 use Rattle.medium.specs.Burn.{burnAll, invalidations}
 use Rattle.table.specs.declared.Table.{Table}
-use Rattle.table.specs.Sound.{usedOf}
+use Rattle.table.specs.Parts.{usedOf}
 use Rattle.replies.specs.Refusal.{Row, firstOf, settle}
 use Rattle.replies.proofs.Refusals.{settle-yes, settle-no}
 use Rattle.deletion.specs.Deletion.{deleteRows, deleteMarks, deleteMedium}

@@ -7,7 +7,7 @@ use mathlib.Core.List.{List}
 use mathlib.Core.Option.{Option, none, some}
 use native.Mathlib.Omega.{arith}
 use lib.ListN.{length}
-use lib.Dec.{leb, eqb}
+use lib.Dec.{leb}
 use borrow.Author.Tests.{lt-leb, le-ltb, ne-eqb}
 use Rattle.lists.specs.Below.{countBelow}
 use Rattle.lists.proofs.Below.{countBelow-cong}
@@ -15,12 +15,13 @@ use Rattle.placement.specs.Rule.{readable}
 use Rattle.medium.specs.Word.{tagOf, contentOf, valueWord}
 use Rattle.medium.specs.Entry.{serverAt}
 use Rattle.table.specs.declared.Table.{Table}
-use Rattle.table.specs.Sound.{reads}
+use Rattle.table.specs.Parts.{reads}
 use Rattle.replies.specs.Refusal.{firstOf}
 use Rattle.replies.specs.Reply.{refused, replyBy}
 use Rattle.replies.proofs.Refusals.{settle-yes}
 use Rattle.lookup.specs.Search.{Place, searchFor}
-use Rattle.lookup.specs.Lookup.{short, lookupRows, metReply, lookupReply}
+use Rattle.checks.specs.Ready.{short, readyRows}
+use Rattle.lookup.specs.Lookup.{lookupRows, metReply, lookupReply}
 use Rattle.lookup.specs.Opened.{lowest, opens}
 use Rattle.lookup.proofs.Searches.{opened-are}
 use Rattle.lookup.proofs.Passed.{in-range}
@@ -28,12 +29,12 @@ use Rattle.history.specs.Call.{lookup, compared}
 use Rattle.history.specs.Ledger.{Ledger, Standing, standing, range, lookupRowsL, openedFrom, standingReply, enter}
 use Rattle.history.proofs.Events.{placeOf, stands-came}
 use Rattle.history.proofs.Holds.{Written}
-use Rattle.history.proofs.Agree.{Agree, Step, settled, same-short, same-reads, same-met}
+use Rattle.history.proofs.Agree.{Agree, Step, settled, same-ready, same-reads, same-met}
 
 module _ {t : Table} {m : List ℕ} {L : Ledger} (A : Agree t m L) (id : ℕ) where
   pub same-rows : firstOf (lookupRows t m id) ≡ firstOf (lookupRowsL L id)
-  unfolding firstOf lookupRows lookupRowsL
-  same-rows = rw (A .isSound, ap (λ (c : ℕ). eqb c 0) (A .count), same-short A)
+  unfolding lookupRows lookupRowsL
+  same-rows = same-ready A (leb range id)
 
   -- the servers opened
   same-opened : (from : ℕ) → countBelow (λ k. leb from k && reads t id k) (t .count) ≡ openedFrom L id from
@@ -68,14 +69,14 @@ module _ {t : Table} {m : List ℕ} {L : Ledger} (A : Agree t m L) (id : ℕ) wh
           rw (w .valueThere, tag, content)
 
   pub lookup-step : Step (lookupReply t m id) t m (enter L (lookup id))
-  unfolding lookupReply enter lookupRows
+  unfolding lookupReply enter
   lookup-step = settled L (lookupRows t m id) (lookupRowsL L id) same-rows _ _ t m
-      (λ z. record { alike = same-reply (in-range _ id _ z); agrees = A })
+      (λ z. record { alike = same-reply (in-range t m id z); agrees = A })
       (λ f. A)
 
   -- a lookup of an id in range, once a server is there
   not-refused : id < range → 0 < t .count → firstOf (lookupRows t m id) ≡ 0
-  unfolding firstOf lookupRows short
+  unfolding firstOf lookupRows readyRows short
   not-refused n l = rw (A .isSound, lt-leb range id n, ne-eqb (t .count) 0 (λ e. omega arith), le-ltb (length m) (serverAt (t .capacity) (t .count)) (A .holds .long))
 
   pub looked : id < range → 0 < t .count → compared (lookupReply t m id) ≡ standingReply L id (standing (L .events) id)

@@ -13,7 +13,7 @@ use Rattle.lists.proofs.Tests.{byBool, and-l, and-r}
 use Rattle.replies.specs.Refusal.{Row, firstOf, settle}
 use Rattle.batch.specs.Batch.{batchBy, batchRows, settledBatch}
 use Rattle.history.specs.Call.{Call, addServer, reweight, write, delete, lookup, batch, Compared}
-use Rattle.history.specs.Ledger.{Ledger, Standing, Entered, standing, enterBy, addServerRowsL, reweightRowsL, writeRowsL, deleteRowsL, lookupRowsL, standingReply, batchL, enter, ledgerReplies}
+use Rattle.history.specs.Ledger.{Ledger, Standing, Entered, standing, enterBy, addServerRowsL, reweightRowsL, readyRowsL, writeRowsL, deleteRowsL, lookupRowsL, standingReply, batchL, enter, ledgerReplies}
 use Rattle.history.proofs.Entering.{entered}
 
 -- a number that a list of calls may meet
@@ -53,7 +53,7 @@ unfolding batchL batchBy settledBatch batchRows settle firstOf usual
 batch-usual L ids = byBool (ltb 256 (length ids)) (λ d. rw d) (λ d. rw d)
 
 enter-usual : (L : Ledger) (c : Call) → usual (enter L c .reply .refusal) ≡ true
-unfolding enter addServerRowsL reweightRowsL writeRowsL deleteRowsL lookupRowsL usualRows usual
+unfolding enter addServerRowsL reweightRowsL readyRowsL writeRowsL deleteRowsL lookupRowsL usualRows usual
 enter-usual L (addServer weight) = entered-usual L (addServerRowsL L weight) _ refl refl
 enter-usual L (reweight server weight) = entered-usual L (reweightRowsL L server weight) _ refl refl
 enter-usual L (write id value) = entered-usual L (writeRowsL L id value) _ refl refl

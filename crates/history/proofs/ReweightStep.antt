@@ -15,10 +15,12 @@ use Rattle.placement.specs.Rule.{writeP, takes, readable}
 use Rattle.placement.proofs.Fractions.{exceeds-grows, raise-old}
 use Rattle.placement.proofs.Rules.{writeP-cong}
 use Rattle.table.specs.declared.Table.{Table}
-use Rattle.table.specs.Sound.{weightOf, readP, sound}
-use Rattle.table.specs.Upkeep.{withWeight}
-use Rattle.table.proofs.Upkeep.{WeightChanged, withWeight-is}
-use Rattle.table.proofs.Soundness.{sound-facts, withWeight-arrays, withWeight-sound}
+use Rattle.table.specs.Parts.{weightOf, readP}
+use Rattle.table.specs.Sound.{sound}
+use Rattle.upkeep.specs.Upkeep.{withWeight}
+use Rattle.upkeep.proofs.Upkeep.{WeightChanged, withWeight-is, withWeight-arrays}
+use Rattle.table.proofs.Soundness.{sound-facts}
+use Rattle.upkeep.proofs.KeptSound.{withWeight-sound}
 use Rattle.replies.specs.Refusal.{firstOf}
 use Rattle.replies.proofs.Refusals.{passed, settle-yes, settle-no}
 use Rattle.servers.specs.Servers.{reweightRows, reweightReply, reweightTable}

@@ -11,7 +11,7 @@ use borrow.Author.Tests.{leb-true, not-false}
 use Rattle.lists.proofs.Tests.{and-l, and-r}
 use Rattle.medium.specs.Word.{blank}
 use Rattle.medium.proofs.Places.{server-zero}
-use Rattle.table.specs.Upkeep.{empty}
+use Rattle.table.specs.Parts.{empty}
 use Rattle.table.proofs.Soundness.{empty-arrays, empty-sound}
 use Rattle.replies.specs.Refusal.{firstOf}
 use Rattle.replies.proofs.Refusals.{passed, settle-yes}

@@ -1,40 +1,38 @@
 -- A write on both sides.
 -- Assumes nothing.
 use Prim.Native.Nat.{ℕ, suc, _<_}
-use mathlib.Core.Path.{_≡_, refl, sym, ap, ap₂, _∙_}
-use mathlib.Core.Bool.{Bool, true, false, _&&_, _||_}
+use mathlib.Core.Path.{_≡_, sym, ap, ap₂, _∙_}
+use mathlib.Core.Bool.{Bool, true, _&&_}
 use mathlib.Core.List.{List, _∷_}
 use native.Mathlib.Omega.{arith}
 use lib.Dec.{leb, eqb}
-use borrow.Author.Tests.{leb-false, eqb-true, eqb-false}
-use Rattle.lists.proofs.Tests.{byBool, true-not-false}
+use borrow.Author.Tests.{eqb-true, eqb-false}
+use Rattle.lists.proofs.Tests.{byBool}
 use Rattle.placement.specs.Draw.{modulus, drawOf}
 use Rattle.placement.specs.Rule.{writeP, takes, readable}
 use Rattle.placement.proofs.Fractions.{exceeds-grows}
 use Rattle.placement.proofs.Rules.{writeServer-is}
-use Rattle.medium.specs.Word.{contentRange, replaced}
+use Rattle.medium.specs.Word.{replaced}
 use Rattle.medium.specs.Entry.{entryAt, blankRun}
 use Rattle.medium.specs.Burn.{burnAll, invalidations}
 use Rattle.medium.proofs.Entries.{blank-run}
 use Rattle.medium.proofs.Burns.{length-burnAll}
 use Rattle.table.specs.declared.Table.{Table}
-use Rattle.table.specs.Sound.{weightOf, usedOf, readP, reads}
-use Rattle.table.specs.Upkeep.{withEntry}
-use Rattle.table.proofs.Upkeep.{EntryAdded, withEntry-is}
-use Rattle.table.proofs.Soundness.{sound-facts, withEntry-arrays, withEntry-sound}
+use Rattle.table.specs.Parts.{weightOf, usedOf, readP, reads}
+use Rattle.upkeep.specs.Upkeep.{withEntry}
+use Rattle.upkeep.proofs.Upkeep.{EntryAdded, withEntry-is, withEntry-arrays}
+use Rattle.table.proofs.Soundness.{sound-facts}
+use Rattle.upkeep.proofs.KeptSound.{withEntry-sound}
 use Rattle.replies.specs.Refusal.{firstOf}
-use Rattle.replies.proofs.Refusals.{passed, settle-yes, settle-no}
-use Rattle.lookup.specs.Lookup.{short}
-use Rattle.writing.specs.Writing.{target, writeRows, writeMarks, writeBurns, writeReply, writeTable, writeMedium}
+use Rattle.replies.proofs.Refusals.{more-same, settle-yes, settle-no}
+use Rattle.checks.proofs.Passed.{ready-numbered, ready-tests}
+use Rattle.writing.specs.Writing.{target, entryRows, writeRows, writeMarks, writeBurns, writeReply, writeTable, writeMedium}
+use Rattle.writing.proofs.Accepted.{write-accepted}
 use Rattle.history.specs.Call.{write, compared}
-use Rattle.history.specs.Ledger.{wrote, Ledger, told, usedBy, range, withEvent, writeRowsL, enter}
+use Rattle.history.specs.Ledger.{wrote, Ledger, told, usedBy, withEvent, writeRowsL, enter}
 use Rattle.history.proofs.Events.{used-self, used-other}
 use Rattle.history.proofs.Writing.{withWords, afterWrite, Accepted, write-holds}
-use Rattle.history.proofs.Agree.{Agree, Step, settled, same-short, same-target, same-reads, same-marks}
-
-or-false : (a b : Bool) → a || b ≡ false → (a ≡ false) × (b ≡ false)
-or-false true b e = absurd (true-not-false refl e)
-or-false false b e = (refl, e)
+use Rattle.history.proofs.Agree.{Agree, Step, settled, same-ready, ledger-numbered, same-target, same-reads, same-marks}
 
 module _ {t : Table} {m : List ℕ} {L : Ledger} (A : Agree t m L) (id value : ℕ) where
   abbrev server : ℕ
@@ -54,17 +52,13 @@ module _ {t : Table} {m : List ℕ} {L : Ledger} (A : Agree t m L) (id value : �
       blank-run m (entryAt (t .capacity) server (usedOf t server)) 3 (λ q b. A .holds .free server (usedOf t server) q l (omega arith) (omega arith) b)
 
   pub same-rows : firstOf (writeRows t m id value) ≡ firstOf (writeRowsL L id value)
-  unfolding firstOf writeRows writeRowsL
-  same-rows =
-      let e3 = ap (λ (c : ℕ). eqb c 0) (A .count) in
-      rw (A .isSound, same-short A) (byBool (eqb (t .count) 0)
-      (λ d. rw (d, sym e3 ∙ d))
-      (λ d.
-      let l = target-there (eqb-false (t .count) 0 d) in
+  unfolding writeRows writeRowsL entryRows firstOf
+  same-rows = more-same _ _ _ _ (ready-numbered t m _) (ledger-numbered L _) (same-ready A _) (λ z.
+      let l = target-there (eqb-false (t .count) 0 (ready-tests t m _ z .none)) in
       let e6 = ap₂ eqb (A .used server l ∙ ap (usedBy (L .events)) (same-target A id)) (A .capacity) in
-      rw (d, sym e3 ∙ d) (byBool (eqb (usedOf t server) (t .capacity))
+      byBool (eqb (usedOf t server) (t .capacity))
       (λ e. rw (e, sym e6 ∙ e))
-      (λ e. rw (e, sym e6 ∙ e, blank-entry l (not-full l (eqb-false (usedOf t server) (t .capacity) e)))))))
+      (λ e. rw (e, sym e6 ∙ e, blank-entry l (not-full l (eqb-false (usedOf t server) (t .capacity) e)))))
 
   -- the write server is readable: its ReadP is at least its WriteP
   target-read : server < t .count → readable (L .greatest) id server ≡ true
@@ -76,21 +70,14 @@ module _ {t : Table} {m : List ℕ} {L : Ledger} (A : Agree t m L) (id value : �
       (writeServer-is (weightOf t) (t .count) id (omega arith) .takesIt)
 
   pub accepted : firstOf (writeRows t m id value) ≡ 0 → Accepted (t .capacity) (t .count) (L .greatest) (L .events) id value server
-  unfolding writeRows
   accepted z =
-      let a = passed 0 _ _ z in
-      let b = passed 1 (leb contentRange id || leb contentRange value) _ (a .1) in
-      let c = passed 2 (eqb (t .count) 0) _ (b .1) in
-      let d = passed 4 (short t m) _ (c .1) in
-      let e = passed 5 (eqb (usedOf t server) (t .capacity)) _ (d .1) in
-      let ranges = or-false (leb contentRange id) (leb contentRange value) (b .0) in
-      let l = target-there (eqb-false (t .count) 0 (c .0)) in
+      let a = write-accepted t m id value z in
       record {
-        small = leb-false range id (ranges .0);
-        smallValue = leb-false range value (ranges .1);
-        there = l;
-        room = not-full l (eqb-false (usedOf t server) (t .capacity) (e .0));
-        reads = target-read l;
+        small = a .idSmall;
+        smallValue = a .small;
+        there = a .there;
+        room = omega (arith, a .free, A .used server (a .there));
+        reads = target-read (a .there);
       }
 
   -- the medium that an accepted write leaves

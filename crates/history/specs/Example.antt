@@ -8,18 +8,19 @@ use Rattle.placement.specs.Rule.{shareOf, writeP, takes, pick, writeServer, rea
 use Rattle.medium.specs.Entry.{serverAt, entryAt, bearsAt, live, blankRun}
 use Rattle.medium.specs.Burn.{burnAll, marksOn, marksOver, invalidations}
 use Rattle.table.specs.Sound.{readSound, serverSound, sound}
-use Rattle.table.specs.Upkeep.{withServer, withWeight, withEntry}
+use Rattle.upkeep.specs.Upkeep.{withServer, withWeight, oneMore, withEntry}
 use Rattle.replies.specs.Refusal.{firstOf, settle}
 use Rattle.replies.specs.declared.Reply.{Reply}
 use Rattle.replies.specs.Reply.{refused, onServer, found, replyBy}
 use Rattle.lookup.specs.Search.{lastLive, opening, searchBelow, searchFor}
-use Rattle.lookup.specs.Lookup.{short, lookupRows, metReply, lookupReply}
+use Rattle.checks.specs.Ready.{short, readyRows}
+use Rattle.lookup.specs.Lookup.{lookupRows, metReply, lookupReply}
 use Rattle.deletion.specs.Deletion.{isMet, deleteRows, deleteMarks, deleteReply, deleteMedium}
-use Rattle.writing.specs.Writing.{target, writeRows, writeMarks, writeBurns, writeReply, writeTable, writeMedium}
+use Rattle.writing.specs.Writing.{target, entryRows, writeRows, writeMarks, writeBurns, writeReply, writeTable, writeMedium}
 use Rattle.servers.specs.Servers.{startRows, startTable, addServerRows, addServerReply, addServerTable, reweightRows, reweightReply, reweightTable}
 use Rattle.history.specs.Call.{Call, addServer, reweight, write, delete, lookup, compared}
 use Rattle.history.specs.Machine.{reply, next, after, replies, begin}
-use Rattle.history.specs.Ledger.{opening as ledgerOpening, usedBy, standing, isStanding, enterBy, put, addServerRowsL, withServerL, reweightRowsL, withWeightL, shortL, withEvent, targetL, writeRowsL, deleteRowsL, lookupRowsL, openedFrom, standingReply, enter, ledgerReplies}
+use Rattle.history.specs.Ledger.{opening as ledgerOpening, usedBy, standing, isStanding, enterBy, put, addServerRowsL, withServerL, reweightRowsL, withWeightL, shortL, readyRowsL, withEvent, targetL, writeRowsL, deleteRowsL, lookupRowsL, openedFrom, standingReply, enter, ledgerReplies}
 
 pub calls : List Call
 calls =
@@ -58,5 +59,5 @@ pub record Example : Type 0 where
   pub word26 : nth (after (begin 4 36) calls .medium) 26 ≡ 2147483649
 
 pub example : Example
-unfolding calls expected allBelow highest orZero upward countBelow total setBelow stepOf nonzero seedOf xorLeft xorRight roundOf drawOf exceeds atLeast raise shareOf writeP takes pick writeServer readable serverAt entryAt bearsAt live blankRun burnAll marksOn marksOver invalidations readSound serverSound sound withServer withWeight withEntry firstOf settle replyBy lastLive opening searchBelow searchFor startRows startTable addServerRows addServerReply addServerTable reweightRows reweightReply reweightTable short target writeRows writeMarks writeBurns writeReply writeTable writeMedium isMet deleteRows deleteMarks deleteReply deleteMedium lookupRows metReply lookupReply compared reply next after replies begin ledgerOpening usedBy standing isStanding enterBy put addServerRowsL withServerL reweightRowsL withWeightL shortL withEvent targetL writeRowsL deleteRowsL lookupRowsL openedFrom standingReply enter ledgerReplies
+unfolding calls expected allBelow highest orZero upward countBelow total setBelow stepOf nonzero seedOf xorLeft xorRight roundOf drawOf exceeds atLeast raise shareOf writeP takes pick writeServer readable serverAt entryAt bearsAt live blankRun burnAll marksOn marksOver invalidations readSound serverSound sound withServer withWeight oneMore withEntry firstOf settle replyBy lastLive opening searchBelow searchFor startRows startTable addServerRows addServerReply addServerTable reweightRows reweightReply reweightTable short readyRows target entryRows writeRows writeMarks writeBurns writeReply writeTable writeMedium isMet deleteRows deleteMarks deleteReply deleteMedium lookupRows metReply lookupReply compared reply next after replies begin ledgerOpening usedBy standing isStanding enterBy put addServerRowsL withServerL reweightRowsL withWeightL shortL readyRowsL withEvent targetL writeRowsL deleteRowsL lookupRowsL openedFrom standingReply enter ledgerReplies
 example = record { machine = refl; ledger = refl; word24 = refl; word25 = refl; word26 = refl }

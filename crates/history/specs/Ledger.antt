@@ -3,7 +3,7 @@
 -- batch are put together.
 use Prim.Native.Nat.{ℕ, suc, _+_, _-_, _*_}
 use mathlib.Core.Bool.{Bool, true, false, cond, not, _&&_, _||_}
-use mathlib.Core.List.{List, [], _∷_}
+use mathlib.Core.List.{List, [], _∷_, _++_}
 use mathlib.Core.Option.{Option, none, some}
 use lib.ListN.{length}
 use lib.Dec.{leb, ltb, eqb}
@@ -136,6 +136,14 @@ range = 1073741824
 unfoldable pub shortL : Ledger → Bool
 shortL L = ltb (L .words) (3 * L .capacity * L .servers)
 
+-- the rows that write, delete and lookup share; `outside` says whether an argument of the call is out of range
+unfoldable pub readyRowsL : Ledger → Bool → List Row
+readyRowsL L outside =
+    2 when outside
+    ∷ 3 when eqb (L .servers) 0
+    ∷ 5 when shortL L
+    ∷ []
+
 unfoldable pub withEvent : Ledger → Event → Ledger
 withEvent L event = record {
   capacity = L .capacity;
@@ -153,31 +161,21 @@ targetL L id = writeServer (L .weight) (L .servers) id
 
 unfoldable pub writeRowsL : Ledger → ℕ → ℕ → List Row
 writeRowsL L id value =
-    2 when (leb range id || leb range value)
-    ∷ 3 when eqb (L .servers) 0
-    ∷ 5 when shortL L
-    ∷ 6 when eqb (usedBy (L .events) (targetL L id)) (L .capacity)
-    ∷ []
+    readyRowsL L (leb range id || leb range value)
+    ++ (6 when eqb (usedBy (L .events) (targetL L id)) (L .capacity) ∷ [])
 
 -- delete
 
 unfoldable pub deleteRowsL : Ledger → ℕ → List Row
 deleteRowsL L id =
-    2 when leb range id
-    ∷ 3 when eqb (L .servers) 0
-    ∷ 5 when shortL L
-    ∷ 8 when not (isStanding (standing (L .events) id))
-    ∷ []
+    readyRowsL L (leb range id)
+    ++ (8 when not (isStanding (standing (L .events) id)) ∷ [])
 
 -- lookup: the value of the id's last write, or 8; the servers from that write's upward whose greatest WriteP exceeds their
 -- draw, or all such servers
 
 unfoldable pub lookupRowsL : Ledger → ℕ → List Row
-lookupRowsL L id =
-    2 when leb range id
-    ∷ 3 when eqb (L .servers) 0
-    ∷ 5 when shortL L
-    ∷ []
+lookupRowsL L id = readyRowsL L (leb range id)
 
 unfoldable pub openedFrom : Ledger → ℕ → ℕ → ℕ
 openedFrom L id from = countBelow (λ k. leb from k && readable (L .greatest) id k) (L .servers)

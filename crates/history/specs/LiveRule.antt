@@ -5,7 +5,7 @@ use mathlib.Core.Path.{_≡_}
 use mathlib.Core.List.{List, [], _∷_, _++_}
 use lib.Dec.{ltb, eqb}
 use Rattle.medium.specs.Entry.{live}
-use Rattle.table.specs.Sound.{usedOf}
+use Rattle.table.specs.Parts.{usedOf}
 use Rattle.history.specs.Call.{Call}
 use Rattle.history.specs.Machine.{State}
 use Rattle.history.specs.Ledger.{Event, wrote, deleted, usedBy}

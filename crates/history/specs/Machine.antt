@@ -8,7 +8,7 @@ use Rattle.lists.specs.Below.{nth, countBelow, total}
 use Rattle.medium.specs.Word.{contentRange, blank}
 use Rattle.medium.specs.Entry.{entryAt, live}
 use Rattle.table.specs.declared.Table.{Table}
-use Rattle.table.specs.Sound.{usedOf}
+use Rattle.table.specs.Parts.{usedOf}
 use Rattle.replies.specs.declared.Reply.{Reply}
 use Rattle.replies.specs.Reply.{refused}
 use Rattle.lookup.specs.Lookup.{lookupReply}

@@ -5,7 +5,7 @@ use mathlib.Core.List.{List}
 use lib.Dec.{leb}
 use Rattle.medium.specs.Burn.{marksOver}
 use Rattle.table.specs.declared.Table.{Table}
-use Rattle.table.specs.Sound.{usedOf, reads}
+use Rattle.table.specs.Parts.{usedOf, reads}
 
 -- the marks of an id's live entries on the readable servers from this one up
 abbrev pub marksFrom : Table → List ℕ → ℕ → ℕ → List ℕ

@@ -5,7 +5,7 @@ ghost use lib.ListN.{length};
 ghost use Rattle.lists.specs.Below.{nth};
 ghost use Rattle.medium.specs.Entry.{AllInside};
 ghost use Rattle.medium.specs.Burn.{burnAll, invalidations};
-ghost use Rattle.table.specs.Sound.{tableOf, column};
+ghost use Rattle.table.specs.Parts.{tableOf, column};
 ghost use Rattle.invalidation.specs.Marks.{marksFrom};
 use placement::Fraction;
 use table::Shape;

@@ -17,7 +17,7 @@ use Rattle.medium.specs.Entry.{entryAt, bearsAt, live, Inside, AllInside}
 use Rattle.medium.proofs.Places.{server-le}
 use Rattle.medium.proofs.Entries.{live-below}
 use Rattle.table.specs.declared.Table.{Table}
-use Rattle.table.specs.Sound.{usedOf, readP, reads}
+use Rattle.table.specs.Parts.{usedOf, readP, reads}
 use Rattle.lookup.specs.declared.Found.{Found}
 use Rattle.lookup.specs.declared.Found.the-variants.{At, Nowhere}
 use Rattle.lookup.specs.Search.{Search, lastLive, opening, searchBelow, searchFor, foundAt, foundBy}

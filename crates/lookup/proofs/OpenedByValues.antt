@@ -18,13 +18,16 @@ use Rattle.medium.specs.Entry.{serverAt, entryAt, valueAt, live}
 use Rattle.medium.proofs.Places.{entry-in, entry-above}
 use Rattle.medium.proofs.Entries.{live-cong, live-used}
 use Rattle.table.specs.declared.Table.{Table}
-use Rattle.table.specs.Sound.{usedOf, sound, reads}
+use Rattle.table.specs.Parts.{usedOf, reads}
+use Rattle.table.specs.Sound.{sound}
 use Rattle.table.proofs.Soundness.{sound-facts}
 use Rattle.replies.specs.Refusal.{firstOf}
 use Rattle.replies.specs.Reply.{refused, found}
-use Rattle.replies.proofs.Refusals.{first-same, reply-same}
+use Rattle.replies.proofs.Refusals.{reply-same}
 use Rattle.lookup.specs.Search.{Place, Search, lastLive, opening, searchBelow, searchFor}
-use Rattle.lookup.specs.Lookup.{short, lookupRows, metReply, lookupReply}
+use Rattle.checks.specs.Ready.{short}
+use Rattle.checks.proofs.Passed.{ready-same}
+use Rattle.lookup.specs.Lookup.{lookupRows, metReply, lookupReply}
 use Rattle.lookup.specs.Opened.{lowest, opens, SameOpened}
 use Rattle.lookup.proofs.Searches.{reads-same, search-cases, search-low, met-some}
 
@@ -85,11 +88,7 @@ module _ (t u : Table) (m w : List ℕ) (id : ℕ) where
 
     same-rows : firstOf (lookupRows t m id) ≡ firstOf (lookupRows u w id)
     unfolding lookupRows short
-    same-rows =
-        first-same 1 _ _ _ _ (rw (s, q)) (λ _.
-        first-same 2 _ _ _ _ refl (λ _.
-        first-same 3 _ _ _ _ (ap (λ (c : ℕ). eqb c 0) (a .count)) (λ _.
-        first-same 5 _ _ _ _ (ap₂ ltb (a .long) (ap₂ serverAt (a .capacity) (a .count))) (λ _. refl))))
+    same-rows = ready-same t u m w _ (s ∙ sym q) (a .count) (ap₂ ltb (a .long) (ap₂ serverAt (a .capacity) (a .count)))
 
     pub opened-by-values : lookupReply t m id ≡ lookupReply u w id
     unfolding lookupReply

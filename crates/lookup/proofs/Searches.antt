@@ -18,7 +18,7 @@ use Rattle.placement.proofs.Rules.{takes-cong}
 use Rattle.medium.specs.Entry.{live}
 use Rattle.medium.proofs.Entries.{live-used}
 use Rattle.table.specs.declared.Table.{Table}
-use Rattle.table.specs.Sound.{usedOf, readP, reads}
+use Rattle.table.specs.Parts.{usedOf, readP, reads}
 use Rattle.lookup.specs.Search.{Place, Search, lastLive, opening, searchBelow, searchFor}
 use Rattle.lookup.specs.Opened.{Met, NoneMet, lowest, opens, Opened}
 

@@ -1,32 +1,23 @@
 -- Lookup (document 01, "The calls" and its table of refusals): its rows of refusals in the order of the tests, and its reply.
 -- t is the table and m the medium as lent.
 use Prim.Native.Nat.{ℕ}
-use mathlib.Core.Bool.{Bool, cond, not}
-use mathlib.Core.List.{List, [], _∷_}
+use mathlib.Core.Bool.{cond}
+use mathlib.Core.List.{List}
 use mathlib.Core.Option.{Option, none, some}
 use lib.ListN.{length}
-use lib.Dec.{leb, ltb, eqb}
+use lib.Dec.{leb, eqb}
 use Rattle.lists.specs.Below.{nth}
 use Rattle.medium.specs.Word.{contentRange, tagOf, contentOf}
-use Rattle.medium.specs.Entry.{serverAt, valueAt}
+use Rattle.medium.specs.Entry.{valueAt}
 use Rattle.table.specs.declared.Table.{Table}
-use Rattle.table.specs.Sound.{sound}
-use Rattle.replies.specs.Refusal.{Row, _when_}
+use Rattle.replies.specs.Refusal.{Row}
 use Rattle.replies.specs.declared.Reply.{Reply}
 use Rattle.replies.specs.Reply.{refused, found, replyBy}
+use Rattle.checks.specs.Ready.{readyRows}
 use Rattle.lookup.specs.Search.{Place, searchFor}
 
--- fewer words than the servers have; write and delete have this row too
-unfoldable pub short : Table → List ℕ → Bool
-short t m = ltb (length m) (serverAt (t .capacity) (t .count))
-
 unfoldable pub lookupRows : Table → List ℕ → ℕ → List Row
-lookupRows t m id =
-    1 when not (sound t)
-    ∷ 2 when leb contentRange id
-    ∷ 3 when eqb (t .count) 0
-    ∷ 5 when short t m
-    ∷ []
+lookupRows t m id = readyRows t m (leb contentRange id)
 
 -- what the search says: 8 where it meets no entry, 10 where the value word that it found is of another tag
 unfoldable pub metReply : ℕ → List ℕ → ℕ → Option Place → Reply

@@ -9,7 +9,7 @@ use lib.Dec.{leb}
 use Rattle.lists.specs.Below.{nth, downward, countBelow}
 use Rattle.medium.specs.Entry.{serverAt, live}
 use Rattle.table.specs.declared.Table.{Table}
-use Rattle.table.specs.Sound.{weightOf, usedOf, readP, reads}
+use Rattle.table.specs.Parts.{weightOf, usedOf, readP, reads}
 use Rattle.lookup.specs.Search.{Place, searchFor}
 
 -- the entry met: on the highest readable server that has a live entry of the id, the highest-numbered one

@@ -7,7 +7,7 @@ use mathlib.Core.Option.{Option, none, some}
 use Rattle.lists.specs.Below.{highest}
 use Rattle.medium.specs.Entry.{live}
 use Rattle.table.specs.declared.Table.{Table}
-use Rattle.table.specs.Sound.{usedOf, reads}
+use Rattle.table.specs.Parts.{usedOf, reads}
 use Rattle.lookup.specs.declared.Found.{Found}
 use Rattle.lookup.specs.declared.Found.the-variants.{At, Nowhere}
 

@@ -1,8 +1,6 @@
-// Lookup: the tests before it, which delete shares, and the search.
-mod checks;
+// Lookup: the value of an id, or why there is none, and how many servers were opened.
 mod search;
 
-pub use checks::ready;
 pub use search::lookup;
 pub use search::lookup_in;
 pub use search::met;

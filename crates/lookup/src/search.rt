@@ -4,12 +4,11 @@ ghost use mathlib.Core.Option.{some};
 ghost use Prim.Native.Nat.{_<_};
 ghost use Rattle.lists.specs.Below.{nth};
 ghost use Rattle.medium.specs.Entry.{Inside, AllInside};
-ghost use Rattle.table.specs.Sound.{tableOf, column};
+ghost use Rattle.table.specs.Parts.{tableOf, column};
 ghost use Rattle.replies.specs.Reply.{replyOfLookup};
 ghost use Rattle.lookup.specs.Search.{searchFor, foundBy};
 ghost use Rattle.lookup.specs.Lookup.{metReply, lookupReply};
 use crate::Found;
-use crate::checks;
 use placement::Fraction;
 use replies::Check;
 use replies::LookupAnswer;
@@ -87,7 +86,7 @@ pub fn lookup_in<'a>(
     ensures { λ r. ⌜ replyOfLookup r ≡ lookupReply (tableOf shape (columns .entry)) (now (medium .entry)) id ⌝ }
 {
     let capacity = shape.capacity;
-    let check = checks::ready(shape, columns, medium, id);
+    let check = checks::ready(shape, columns, medium, medium::CONTENT_RANGE <= id);
     if let Check::Refused(refusal) = check {
         return LookupAnswer::Refused(refusal, 0);
     }

@@ -10,7 +10,7 @@ use borrow.Author.Tests.{lt-ltb, le-ltb}
 use Rattle.lists.specs.Below.{nth}
 use Rattle.lists.specs.Array.{arrayAt}
 use Rattle.table.specs.declared.Table.{Table}
-use Rattle.table.specs.Upkeep.{withServer, withWeight, withEntry}
+use Rattle.upkeep.specs.Upkeep.{withServer, withWeight, withEntry}
 use Rattle.table.proofs.Soundness.{Arrays}
 use Rattle.replies.proofs.Refusals.{settle-either}
 use Rattle.writing.specs.Writing.{writeRows, writeTable}

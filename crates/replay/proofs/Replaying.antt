@@ -16,8 +16,8 @@ use Rattle.lists.proofs.Tests.{byBool}
 use Rattle.lists.proofs.Below.{replicate-all}
 use Rattle.medium.specs.Word.{blank}
 use Rattle.table.specs.declared.Table.{Table}
-use Rattle.table.specs.Sound.{usedOf}
-use Rattle.table.specs.Upkeep.{withEntry}
+use Rattle.table.specs.Parts.{usedOf}
+use Rattle.upkeep.specs.Upkeep.{withEntry}
 use Rattle.table.proofs.Soundness.{sound-facts}
 use Rattle.replies.specs.Refusal.{firstOf}
 use Rattle.replies.specs.declared.Refusal.{Refusal}

@@ -8,6 +8,7 @@ use lib.ListN.{length, set}
 use lib.Dec.{eqb}
 use Rattle.lists.specs.Below.{nth}
 use Rattle.medium.specs.Word.{blank}
+use Rattle.upkeep.specs.Upkeep.{oneMore}
 use Rattle.replies.specs.Refusal.{settle}
 use Rattle.replies.specs.declared.Reply.{Reply}
 use Rattle.replies.specs.Reply.{refused}
@@ -56,7 +57,7 @@ ledgerReplyTo L (some c) = enter L c .reply
 
 -- the used entries after a call by its number and reply: a write that is accepted has one more on its server
 unfoldable pub usedAfter : List ℕ → ℕ → Reply → List ℕ
-usedAfter used number r = cond (eqb number 3) (cond (eqb (r .refusal) 0) (set used (r .server) (suc (nth used (r .server)))) used) used
+usedAfter used number r = cond (eqb number 3) (cond (eqb (r .refusal) 0) (oneMore used (r .server)) used) used
 
 -- the five words of reply i
 unfoldable pub withReply : List ℕ → ℕ → Reply → List ℕ

@@ -6,7 +6,7 @@ ghost use Prim.Native.Nat.{_<_, _≤_, _+_, _*_, _/_, min};
 ghost use lib.ListN.{length};
 ghost use lib.Seq.{paste};
 ghost use Rattle.lists.specs.Below.{nth};
-ghost use Rattle.table.specs.Sound.{tableOf};
+ghost use Rattle.table.specs.Parts.{tableOf};
 ghost use Rattle.replies.specs.Reply.{refused, replyOfServer};
 ghost use Rattle.history.specs.Machine.{after};
 ghost use Rattle.replay.specs.Replay.{callOf, callsBelow, noCall, replyTo, nextBy, withReply, withReplies, usedAfter, runs, started, replyAt, LedgerWords};
@@ -48,7 +48,7 @@ fn no_call() -> Reply
     }
 }
 
-// Runs an encoded call but 1 and 2 on a table whose arrays are borrowed. `count_entry` then makes the table after it.
+// Runs an encoded call but 1 and 2 on a table whose arrays are borrowed. `count_write` then makes the table after it.
 fn run_in<'a>(
     shape: Shape,
     columns: [&'a [u32; 256]; 4],
@@ -70,14 +70,14 @@ fn run_in<'a>(
 }
 
 // Counts the entry of an accepted write as used on its server; no other call but 1 and 2 changes the table.
-fn count_entry(used: &mut [u32; 256], number: u32, reply: Reply)
+fn count_write(used: &mut [u32; 256], number: u32, reply: Reply)
     requires { ⌜ (number ≡ 3 → reply .refusal ≡ 0 → (reply .server < 256) × (nth (now used) (reply .server) < 65536)) ⌝ }
     ensures { λ _. ⌜ now (used .exit) ≡ usedAfter (now (used .entry)) number reply ⌝ }
 {
     if number == 3 {
         if reply.refusal == 0 {
             let server = reply.server;
-            used[server] += 1;
+            upkeep::count_entry(used, server);
         }
     }
 }
@@ -125,7 +125,7 @@ pub fn run_call(table: Table, medium: &mut [u32], number: u32, first: u32, secon
         first,
         second,
     );
-    count_entry(&mut next.used, number, reply);
+    count_write(&mut next.used, number, reply);
     Ran { reply, table: next }
 }
 
@@ -190,7 +190,7 @@ fn run_calls(
                 first,
                 second,
             );
-            count_entry(&mut next.used, number, lent);
+            count_write(&mut next.used, number, lent);
             lent
         };
         store(replies, i, reply);

@@ -1,13 +1,14 @@
 -- Laws of rows of refusals: what a call with these rows gives, and what holds where it is accepted.
 -- Assumes nothing.
 use Prim.Native.Nat.{ℕ, suc}
-use mathlib.Core.Path.{_≡_, refl, ap}
-use mathlib.Core.Bool.{Bool, true, false}
-use mathlib.Core.List.{List, _∷_}
+use mathlib.Core.Path.{_≡_, refl, sym, ap, _∙_}
+use mathlib.Core.Logic.{_≢_}
+use mathlib.Core.Bool.{Bool, true, false, cond, _&&_}
+use mathlib.Core.List.{List, [], _∷_, _++_}
 use native.Mathlib.Omega.{arith}
-use lib.Dec.{eqb}
-use borrow.Author.Tests.{eqb-true, eq-eqb, ne-eqb}
-use Rattle.lists.proofs.Tests.{byBool}
+use lib.Dec.{ltb, eqb}
+use borrow.Author.Tests.{ltb-true, eqb-true, eqb-false, eq-eqb, ne-eqb}
+use Rattle.lists.proofs.Tests.{byBool, and-l, and-r}
 use Rattle.replies.specs.Refusal.{Row, _when_, firstOf, settle}
 use Rattle.replies.specs.declared.Reply.{Reply}
 use Rattle.replies.specs.Reply.{refused, replyBy}
@@ -32,10 +33,40 @@ unfolding firstOf
 passed n true rows e = absurd (omega arith)
 passed n false rows e = (refl, e)
 
+-- rows after rows whose numbers are not 0: the later ones count where none of the earlier applies
+unfoldable pub numbered : List Row → Bool
+numbered [] = true
+numbered (r ∷ rows) = ltb 0 (r .number) && numbered rows
+
+pub first-after : (rows more : List Row) → numbered rows ≡ true → firstOf (rows ++ more) ≡ cond (eqb (firstOf rows) 0) (firstOf more) (firstOf rows)
+unfolding numbered firstOf
+first-after [] more n = refl
+first-after (r ∷ rows) more n = byBool (r .applies)
+    (λ d. rw (d, ne-eqb (r .number) 0 (λ z. omega (arith, ltb-true 0 (r .number) (and-l (ltb 0 (r .number)) (numbered rows) n)))))
+    (λ d. rw d (first-after rows more (and-r (ltb 0 (r .number)) (numbered rows) n)))
+
+module _ (rows more : List Row) (n : numbered rows ≡ true) where
+  pub first-later : firstOf rows ≡ 0 → firstOf (rows ++ more) ≡ firstOf more
+  first-later z = first-after rows more n ∙ rw (eq-eqb (firstOf rows) 0 z)
+
+  pub first-earlier : firstOf rows ≢ 0 → firstOf (rows ++ more) ≡ firstOf rows
+  first-earlier f = first-after rows more n ∙ rw (ne-eqb (firstOf rows) 0 f)
+
+  pub passed-both : firstOf (rows ++ more) ≡ 0 → (firstOf rows ≡ 0) × (firstOf more ≡ 0)
+  passed-both z = byBool (eqb (firstOf rows) 0)
+      (λ e. let y = eqb-true (firstOf rows) 0 e in (y, sym (first-later y) ∙ z))
+      (λ e. let y = eqb-false (firstOf rows) 0 e in absurd (y (sym (first-earlier y) ∙ z)))
+
 -- two calls of the same refusal: what holds between their results holds between what they give
 pub first-same : (n : ℕ) (b c : Bool) (r s : List Row) → b ≡ c → (b ≡ false → firstOf r ≡ firstOf s) → firstOf (n when b ∷ r) ≡ firstOf (n when c ∷ s)
 unfolding firstOf
 first-same n b c r s e f = rw (← e) (byBool b (λ d. rw d) (λ d. rw d (f d)))
+
+-- and with rows after them
+pub more-same : (r s x y : List Row) → numbered r ≡ true → numbered s ≡ true → firstOf r ≡ firstOf s → (firstOf r ≡ 0 → firstOf x ≡ firstOf y) → firstOf (r ++ x) ≡ firstOf (s ++ y)
+more-same r s x y n o e f = byBool (eqb (firstOf r) 0)
+    (λ d. let z = eqb-true (firstOf r) 0 d in first-later r x n z ∙ f z ∙ sym (first-later s y o (sym e ∙ z)))
+    (λ d. let z = eqb-false (firstOf r) 0 d in first-earlier r x n z ∙ e ∙ sym (first-earlier s y o (λ w. z (e ∙ w))))
 
 module _ (r s : List Row) (e : firstOf r ≡ firstOf s) where
   pub settle-both : {A : Type 0} (R : A → A → Type 0) (x x′ y y′ : A) → (firstOf r ≡ 0 → R x x′) → R y y′ → R (settle r x y) (settle s x′ y′)

@@ -7,8 +7,9 @@ use lib.ListN.{length}
 use lib.Dec.{leb, ltb, eqb}
 use Rattle.medium.specs.Entry.{serverAt, blankRun}
 use Rattle.table.specs.declared.Table.{Table}
-use Rattle.table.specs.Sound.{usedOf, sound}
-use Rattle.table.specs.Upkeep.{empty, withServer, withWeight}
+use Rattle.table.specs.Parts.{usedOf, empty}
+use Rattle.table.specs.Sound.{sound}
+use Rattle.upkeep.specs.Upkeep.{withServer, withWeight}
 use Rattle.replies.specs.Refusal.{Row, _when_, settle}
 use Rattle.replies.specs.declared.Reply.{Reply}
 use Rattle.replies.specs.Reply.{accepted, onServer, replyBy}

@@ -1,7 +1,7 @@
 // The tests before start, add_server and reweight, in the order of document 01's numbers. They borrow the table's arrays, so
 // that none is copied.
 ghost use mathlib.Core.Path.{_≡_};
-ghost use Rattle.table.specs.Sound.{tableOf};
+ghost use Rattle.table.specs.Parts.{tableOf};
 ghost use Rattle.replies.specs.Refusal.{firstOf};
 ghost use Rattle.replies.specs.Reply.{checkNumber};
 ghost use Rattle.servers.specs.Servers.{startRows, addServerRows, reweightRows};

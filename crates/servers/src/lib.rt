@@ -70,7 +70,7 @@ pub fn add_server(table: Table, medium: &[u32], weight: u32) -> Placed
         },
         Check::Accepted => {
             let server = table.count;
-            let next = table::with_server(table, weight);
+            let next = upkeep::with_server(table, weight);
             Placed {
                 answer: ServerAnswer::Server(server),
                 table: next,
@@ -104,7 +104,7 @@ pub fn reweight(table: Table, server: usize, weight: u32) -> Placed
             table,
         },
         Check::Accepted => {
-            let next = table::with_weight(table, server, weight);
+            let next = upkeep::with_weight(table, server, weight);
             Placed {
                 answer: ServerAnswer::Server(server),
                 table: next,

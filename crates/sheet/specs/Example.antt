@@ -10,13 +10,14 @@ use Rattle.placement.specs.Rule.{shareOf, writeP, takes, pick, writeServer, rea
 use Rattle.medium.specs.Entry.{serverAt, entryAt, bearsAt, live, blankRun}
 use Rattle.medium.specs.Burn.{burnAll, marksOn, marksOver, invalidations}
 use Rattle.table.specs.Sound.{readSound, serverSound, sound}
-use Rattle.table.specs.Upkeep.{withServer, withWeight, withEntry}
+use Rattle.upkeep.specs.Upkeep.{withServer, withWeight, oneMore, withEntry}
 use Rattle.replies.specs.Refusal.{firstOf, settle}
 use Rattle.replies.specs.Reply.{replyBy}
 use Rattle.lookup.specs.Search.{lastLive, opening, searchBelow, searchFor}
-use Rattle.lookup.specs.Lookup.{short, lookupRows, metReply, lookupReply}
+use Rattle.checks.specs.Ready.{short, readyRows}
+use Rattle.lookup.specs.Lookup.{lookupRows, metReply, lookupReply}
 use Rattle.deletion.specs.Deletion.{isMet, deleteRows, deleteMarks, deleteReply, deleteMedium}
-use Rattle.writing.specs.Writing.{target, writeRows, writeMarks, writeBurns, writeReply, writeTable, writeMedium}
+use Rattle.writing.specs.Writing.{target, entryRows, writeRows, writeMarks, writeBurns, writeReply, writeTable, writeMedium}
 use Rattle.servers.specs.Servers.{startRows, startReply, startTable, addServerRows, addServerReply, addServerTable, reweightRows, reweightReply, reweightTable}
 use Rattle.history.specs.Machine.{reply, next}
 use Rattle.replay.specs.Replay.{callOf, replyTo, nextBy}
@@ -56,5 +57,5 @@ output =
     []
 
 pub example : outputOf input (replicate 36 4294967295) .bytes ≡ output
-unfolding input output allBelow highest orZero upward countBelow total setBelow stepOf nonzero seedOf xorLeft xorRight roundOf drawOf exceeds atLeast raise shareOf writeP takes pick writeServer readable serverAt entryAt bearsAt live blankRun burnAll marksOn marksOver invalidations readSound serverSound sound withServer withWeight withEntry firstOf settle replyBy lastLive opening searchBelow searchFor startRows startReply startTable addServerRows addServerReply addServerTable reweightRows reweightReply reweightTable short target writeRows writeMarks writeBurns writeReply writeTable writeMedium isMet deleteRows deleteMarks deleteReply deleteMedium lookupRows metReply lookupReply reply next callOf replyTo nextBy isDigit digitRun valueOf numberAt spaced lineBy hasTwo last first lineOf longer linesOf digits decimal printed question answered started called lineRun run outputOf
+unfolding input output allBelow highest orZero upward countBelow total setBelow stepOf nonzero seedOf xorLeft xorRight roundOf drawOf exceeds atLeast raise shareOf writeP takes pick writeServer readable serverAt entryAt bearsAt live blankRun burnAll marksOn marksOver invalidations readSound serverSound sound withServer withWeight oneMore withEntry firstOf settle replyBy lastLive opening searchBelow searchFor startRows startReply startTable addServerRows addServerReply addServerTable reweightRows reweightReply reweightTable short readyRows target entryRows writeRows writeMarks writeBurns writeReply writeTable writeMedium isMet deleteRows deleteMarks deleteReply deleteMedium lookupRows metReply lookupReply reply next callOf replyTo nextBy isDigit digitRun valueOf numberAt spaced lineBy hasTwo last first lineOf longer linesOf digits decimal printed question answered started called lineRun run outputOf
 example = refl

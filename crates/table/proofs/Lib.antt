@@ -1,4 +1,2 @@
-pub mod Upkeep
 pub mod Soundness
 pub mod Agreement
-mod Raising

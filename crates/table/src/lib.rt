@@ -1,9 +1,7 @@
-// The table of servers, by value: whether it is sound, an empty one, and the tables that calls make of it.
+// The table of servers, by value: an empty one, and whether one is sound.
 ghost use mathlib.Core.Path.{_≡_};
-ghost use mathlib.Core.Bool.{true};
-ghost use Prim.Native.Nat.{_<_, _≤_};
-ghost use Rattle.table.specs.Sound.{tableOf, readSound, sound};
-ghost use Rattle.table.specs.Upkeep.{empty, withServer, withWeight, withEntry};
+ghost use Rattle.table.specs.Parts.{tableOf, empty};
+ghost use Rattle.table.specs.Sound.{readSound, sound};
 use placement::Fraction;
 
 // Document 01's table: capacity is its E, the entries of a server; count its count of fitted shelves; the four arrays
@@ -93,64 +91,4 @@ pub fn is_sound<'a>(shape: Shape, columns: [&'a [u32; 256]; 4]) -> bool
         i += 1;
     }
     true
-}
-
-// A sound table with one server more.
-pub fn with_server(table: Table, weight: u32) -> Table
-    requires { ⌜ sound table ≡ true ⌝ }
-    requires { ⌜ table .count < 256 ⌝ }
-    requires { ⌜ weight ≤ table .capacity ⌝ }
-    ensures { λ r. ⌜ r ≡ withServer table weight ⌝ }
-{
-    let k = table.count;
-    let sum = placement::sum_weights(&table.weights, k);
-    let write = placement::write_p(k, weight, sum + weight);
-    let mut next = table;
-    next.weights[k] = weight;
-    next.used[k] = 0;
-    next.numerators[k] = write.num;
-    next.denominators[k] = write.den;
-    next.count = k + 1;
-    next
-}
-
-// A sound table with another weight for a server and every ReadP raised.
-pub fn with_weight(table: Table, server: usize, weight: u32) -> Table
-    requires { ⌜ sound table ≡ true ⌝ }
-    requires { ⌜ server < table .count ⌝ }
-    requires { ⌜ weight ≤ table .capacity ⌝ }
-    ensures { λ r. ⌜ r ≡ withWeight table server weight ⌝ }
-{
-    let count = table.count;
-    let mut next = table;
-    next.weights[server] = weight;
-    let mut sum: u32 = 0;
-    let mut i: usize = 0;
-    while i < count {
-        let w = next.weights[i];
-        sum += w;
-        let write = placement::write_p(i, w, sum);
-        let read = Fraction {
-            num: next.numerators[i],
-            den: next.denominators[i],
-        };
-        if !placement::at_least(read, write) {
-            next.numerators[i] = write.num;
-            next.denominators[i] = write.den;
-        }
-        i += 1;
-    }
-    next
-}
-
-// A sound table with one entry more used on a server.
-pub fn with_entry(table: Table, server: usize) -> Table
-    requires { ⌜ sound table ≡ true ⌝ }
-    requires { ⌜ server < table .count ⌝ }
-    ensures { λ r. ⌜ r ≡ withEntry table server ⌝ }
-{
-    let mut next = table;
-    let used = next.used[server];
-    next.used[server] = used + 1;
-    next
 }

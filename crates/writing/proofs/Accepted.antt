@@ -3,55 +3,55 @@
 use Prim.Native.Nat.{ℕ, _<_}
 use mathlib.Core.Path.{_≡_, refl, sym, ap, _∙_}
 use mathlib.Core.Logic.{_≢_}
-use mathlib.Core.Bool.{Bool, true, false, not, _||_}
+use mathlib.Core.Bool.{true, not, _||_}
 use mathlib.Core.List.{List}
 use native.Mathlib.Omega.{arith}
-use lib.ListN.{length}
-use lib.Dec.{leb, ltb, eqb}
-use borrow.Author.Tests.{ltb-false, leb-false, eqb-false, not-false}
-use Rattle.lists.proofs.Tests.{true-not-false}
+use lib.Dec.{leb, eqb}
+use borrow.Author.Tests.{leb-false, eqb-false, not-false}
+use Rattle.lists.proofs.Tests.{or-false}
 use Rattle.medium.specs.Word.{contentRange}
-use Rattle.medium.specs.Entry.{serverAt, AllInside}
+use Rattle.medium.specs.Entry.{entryAt, blankRun, AllInside}
 use Rattle.table.specs.declared.Table.{Table}
-use Rattle.table.specs.Sound.{usedOf, sound}
-use Rattle.table.specs.Upkeep.{withEntry}
-use Rattle.table.proofs.Soundness.{sound-facts}
+use Rattle.table.specs.Parts.{usedOf}
+use Rattle.table.specs.Sound.{sound}
+use Rattle.upkeep.specs.Upkeep.{withEntry}
 use Rattle.replies.specs.Refusal.{firstOf}
 use Rattle.replies.specs.declared.Reply.{Reply}
-use Rattle.replies.proofs.Refusals.{settle-yes, settle-no, passed}
+use Rattle.replies.proofs.Refusals.{settle-yes, settle-no, passed, passed-both}
 use Rattle.replies.proofs.Answers.{reply-done, reply-number}
-use Rattle.lookup.specs.Lookup.{short}
-use Rattle.writing.specs.Writing.{target, writeRows, writeReply, writeTable}
+use Rattle.checks.proofs.Passed.{ready-numbered, ready-tests, ready-accepted}
+use Rattle.writing.specs.Writing.{target, entryRows, writeRows, writeReply, writeTable}
 use Rattle.writing.proofs.Targets.{target-is}
 
-or-r : (a b : Bool) → a || b ≡ false → b ≡ false
-or-r true b e = absurd (true-not-false refl e)
-or-r false b e = e
-
--- a write goes to a server that is there and has an entry left
+-- its numbers are in range, and it goes to a server that is there and has an entry left, which is blank
 pub record WriteAccepted (t : Table) (m : List ℕ) (id value : ℕ) : Type 0 where
   pub isSound : sound t ≡ true
+  pub idSmall : id < contentRange
   pub small : value < contentRange
   pub there : target t id < t .count
   pub free : usedOf t (target t id) < t .capacity
+  pub isBlank : blankRun m (entryAt (t .capacity) (target t id) (usedOf t (target t id))) 3 ≡ true
   pub inside : AllInside (t .capacity) (t .count) (usedOf t) m
 
 pub write-accepted : (t : Table) (m : List ℕ) (id value : ℕ) → firstOf (writeRows t m id value) ≡ 0 → WriteAccepted t m id value
-unfolding writeRows short
+unfolding writeRows entryRows
 write-accepted t m id value z =
-    let a = passed 0 (not (sound t)) _ z in
-    let b = passed 1 (leb contentRange id || leb contentRange value) _ (a .1) in
-    let d = passed 2 (eqb (t .count) 0) _ (b .1) in
-    let e = passed 4 (ltb (length m) (serverAt (t .capacity) (t .count))) _ (d .1) in
-    let f = passed 5 (eqb (usedOf t (target t id)) (t .capacity)) _ (e .1) in
-    let s = sound-facts t (not-false _ (a .0)) in
-    let l = target-is t id (omega (arith, eqb-false (t .count) 0 (d .0))) .below in
+    let outside = leb contentRange id || leb contentRange value in
+    let p = passed-both _ (entryRows t m id) (ready-numbered t m outside) z in
+    let a = ready-tests t m outside (p .0) in
+    let r = ready-accepted t m outside (p .0) in
+    let f = passed 5 (eqb (usedOf t (target t id)) (t .capacity)) _ (p .1) in
+    let g = passed 6 (not (blankRun m (entryAt (t .capacity) (target t id) (usedOf t (target t id))) 3)) _ (f .1) in
+    let ranges = or-false (leb contentRange id) (leb contentRange value) (a .within) in
+    let l = target-is t id (omega (arith, eqb-false (t .count) 0 (a .none))) .below in
     record {
-      isSound = not-false _ (a .0);
-      small = leb-false _ _ (or-r (leb contentRange id) (leb contentRange value) (b .0));
+      isSound = r .isSound;
+      idSmall = leb-false _ _ (ranges .0);
+      small = leb-false _ _ (ranges .1);
       there = l;
-      free = omega (arith, s .server (target t id) l .fits, eqb-false (usedOf t (target t id)) (t .capacity) (f .0));
-      inside = record { small = s .high; few = s .few; fits = λ k l. s .server k l .fits; long = ltb-false _ _ (e .0) };
+      free = omega (arith, r .inside .fits (target t id) l, eqb-false (usedOf t (target t id)) (t .capacity) (f .0));
+      isBlank = not-false _ (g .0);
+      inside = r .inside;
     }
 
 -- a write by its reply: one of refusal 0 is accepted and names the write server, whose used grows by one

@@ -9,7 +9,7 @@ use Rattle.medium.specs.Word.{idWord, valueWord, replaced}
 use Rattle.medium.specs.Entry.{entryAt, AllInside}
 use Rattle.medium.specs.Burn.{burnAll, invalidations}
 use Rattle.table.specs.declared.Table.{Table}
-use Rattle.table.specs.Sound.{usedOf}
+use Rattle.table.specs.Parts.{usedOf}
 use Rattle.replies.specs.declared.Refusal.{Refusal}
 use Rattle.replies.specs.declared.WriteAnswer.{WriteAnswer}
 use Rattle.replies.specs.declared.WriteAnswer.the-variants.{Written, Refused}

@@ -1,5 +1,5 @@
 pub mod Targets
 pub mod Accepted
-mod Planning
+mod EntryRows
 mod NewEntry
 mod Done

@@ -15,7 +15,8 @@ use Rattle.medium.specs.Burn.{burnAll, marksOver, invalidations}
 use Rattle.medium.proofs.Places.{entry-apart}
 use Rattle.medium.proofs.Marks.{marksOver-cong}
 use Rattle.table.specs.declared.Table.{Table}
-use Rattle.table.specs.Sound.{usedOf, sound}
+use Rattle.table.specs.Parts.{usedOf}
+use Rattle.table.specs.Sound.{sound}
 use Rattle.table.proofs.Soundness.{sound-facts}
 use Rattle.writing.specs.Writing.{target, writeMarks, writeBurns}
 

@@ -5,7 +5,7 @@ use Rattle.placement.specs.Draw.{modulus, drawOf}
 use Rattle.placement.specs.Rule.{Picked}
 use Rattle.placement.proofs.Rules.{writeServer-is}
 use Rattle.table.specs.declared.Table.{Table}
-use Rattle.table.specs.Sound.{weightOf}
+use Rattle.table.specs.Parts.{weightOf}
 use Rattle.writing.specs.Writing.{target}
 
 -- the write server is the published pick

@@ -2,7 +2,7 @@
 -- the table and the medium that it leaves. t is the table and m the medium as lent.
 use Prim.Native.Nat.{ℕ}
 use mathlib.Core.Bool.{not, _||_}
-use mathlib.Core.List.{List, [], _∷_}
+use mathlib.Core.List.{List, [], _∷_, _++_}
 use lib.ListN.{length}
 use lib.Dec.{leb, eqb}
 use Rattle.placement.specs.Rule.{writeServer}
@@ -10,28 +10,28 @@ use Rattle.medium.specs.Word.{contentRange, idWord, valueWord, replaced}
 use Rattle.medium.specs.Entry.{entryAt, valueAt, blankRun}
 use Rattle.medium.specs.Burn.{Burn, burnAll, invalidations}
 use Rattle.table.specs.declared.Table.{Table}
-use Rattle.table.specs.Sound.{weightOf, usedOf, sound}
-use Rattle.table.specs.Upkeep.{withEntry}
+use Rattle.table.specs.Parts.{weightOf, usedOf}
+use Rattle.upkeep.specs.Upkeep.{withEntry}
 use Rattle.replies.specs.Refusal.{Row, _when_, settle}
 use Rattle.replies.specs.declared.Reply.{Reply}
 use Rattle.replies.specs.Reply.{onServer, replyBy}
-use Rattle.lookup.specs.Lookup.{short}
+use Rattle.checks.specs.Ready.{readyRows}
 use Rattle.invalidation.specs.Marks.{marksFrom}
 
 -- the server that a write goes to; its entry there is the server's used
 unfoldable pub target : Table → ℕ → ℕ
 target t id = writeServer (weightOf t) (t .count) id
 
-unfoldable pub writeRows : Table → List ℕ → ℕ → ℕ → List Row
-writeRows t m id value =
+-- what only a write tests: that its server is full, and that its entry there is not blank
+unfoldable pub entryRows : Table → List ℕ → ℕ → List Row
+entryRows t m id =
     let k = target t id in
-    1 when not (sound t)
-    ∷ 2 when (leb contentRange id || leb contentRange value)
-    ∷ 3 when eqb (t .count) 0
-    ∷ 5 when short t m
-    ∷ 6 when eqb (usedOf t k) (t .capacity)
+    6 when eqb (usedOf t k) (t .capacity)
     ∷ 7 when not (blankRun m (entryAt (t .capacity) k (usedOf t k)) 3)
     ∷ []
+
+unfoldable pub writeRows : Table → List ℕ → ℕ → ℕ → List Row
+writeRows t m id value = readyRows t m (leb contentRange id || leb contentRange value) ++ entryRows t m id
 
 -- the marks of the earlier live entries on readable servers at or above the write server
 unfoldable pub writeMarks : Table → List ℕ → ℕ → List ℕ

@@ -1,11 +1,11 @@
 // Write: a value and its id go to the write server, and earlier entries of the id are invalidated.
-mod checks;
+mod planning;
 
 ghost use mathlib.Core.Path.{_≡_};
 ghost use Prim.Native.Nat.{_<_, _+_};
 ghost use lib.ListN.{length, set};
 ghost use Rattle.medium.specs.Word.{contentRange, idWord, valueWord};
-ghost use Rattle.table.specs.Sound.{tableOf};
+ghost use Rattle.table.specs.Parts.{tableOf};
 ghost use Rattle.replies.specs.Reply.{replyOfWrite};
 ghost use Rattle.writing.specs.Writing.{writeReply, writeTable, writeMedium};
 use replies::Refusal;
@@ -48,7 +48,7 @@ pub fn write_in<'a>(
     ensures medium { λ _. ⌜ now (medium .exit) ≡ writeMedium (tableOf shape (columns .entry)) (now (medium .entry)) id value ⌝ }
 {
     let capacity = shape.capacity;
-    let plan = checks::write(shape, columns, medium, id, value);
+    let plan = planning::plan_write(shape, columns, medium, id, value);
     match plan {
         Plan::Refused(refusal) => WriteAnswer::Refused(refusal),
         Plan::To(server) => {
@@ -86,7 +86,7 @@ pub fn write(table: Table, medium: &mut [u32], id: u32, value: u32) -> Written
     match answer {
         WriteAnswer::Refused(_) => Written { answer, table },
         WriteAnswer::Written(server, _) => {
-            let next = table::with_entry(table, server);
+            let next = upkeep::with_entry(table, server);
             Written {
                 answer,
                 table: next,

@@ -2,14 +2,17 @@
 use mathlib.Core.Path.{_≡_}
 use mathlib.Core.List.{List}
 use Prim.Native.Nat.{ℕ}
+use lib.Dec.{leb}
 use borrow.Author.Needs.{needs}
+use Rattle.medium.specs.Word.{contentRange}
 use Rattle.table.specs.declared.Table.{Table}
-use Rattle.table.specs.Sound.{tableOf}
-use Rattle.replies.specs.Refusal.{firstOf}
+use Rattle.table.specs.Parts.{tableOf}
+use Rattle.replies.specs.Refusal.{Row, firstOf}
 use Rattle.replies.specs.Reply.{numberOf, replyOfDelete}
 use Rattle.replies.proofs.Answers.{check-refused, check-accepted}
-use Rattle.lookup.specs.Lookup.{lookupRows}
-use Rattle.lookup.proofs.Passed.{lookup-accepted}
+use Rattle.checks.specs.Ready.{readyRows}
+use Rattle.checks.proofs.Passed.{ready-accepted}
+use Rattle.deletion.specs.Deletion.{deleteMarks}
 use Rattle.deletion.proofs.Done.{delete-refused, deleted-none, deleted-done}
 use Rattle.deletion.proofs.delete_in.Statement.{statement}
 use Rattle.deletion.proofs.delete_in.Tie as tie
@@ -30,11 +33,15 @@ T c = let a = S c .args in tableOf (a .shape) (a .columns)
 abbrev M : tie.After-ready → List ℕ
 M c = S c .args .medium .now
 
-refused-here : (c : tie.After-check) → numberOf (c .check .given .0 .0) ≡ firstOf (lookupRows (T (c .before .before)) (M (c .before .before)) (S (c .before .before) .args .id))
-refused-here c = check-refused (lookupRows (T (c .before .before)) (M (c .before .before)) (S (c .before .before) .args .id)) (c .before .before .ready .ensures) (c .check .given .1)
+-- the rows that the tests stand for
+abbrev rows : tie.After-ready → List Row
+rows c = readyRows (T c) (M c) (leb contentRange (S c .args .id))
 
-accepted-here : (c : tie.After-enum-told) → firstOf (lookupRows (T (c .before .before)) (M (c .before .before)) (S (c .before .before) .args .id)) ≡ 0
-accepted-here c = check-accepted (lookupRows (T (c .before .before)) (M (c .before .before)) (S (c .before .before) .args .id)) (c .before .before .ready .ensures) (c .enum-told .given .1)
+refused-here : (c : tie.After-check) → numberOf (c .check .given .0 .0) ≡ firstOf (rows (c .before .before))
+refused-here c = check-refused (rows (c .before .before)) (c .before .before .ready .ensures) (c .check .given .1)
+
+accepted-here : (c : tie.After-enum-told) → firstOf (rows (c .before .before)) ≡ 0
+accepted-here c = check-accepted (rows (c .before .before)) (c .before .before .ready .ensures) (c .enum-told .given .1)
 
 same-length : tie.Need-same-length
 same-length c = search needs
@@ -47,7 +54,7 @@ enum-told : tie.Need-enum-told
 enum-told c = search needs
 
 invalidate-requires : tie.Need-invalidate-requires
-invalidate-requires c κs = (lookup-accepted _ _ _ (accepted-here (c .before)) .inside, search needs)
+invalidate-requires c κs = (ready-accepted _ _ _ (accepted-here (c .before)) .inside, search needs)
 
 -- where the tests were accepted
 abbrev E : tie.After-invalidate → tie.After-enum-told
@@ -57,7 +64,7 @@ same-length-2 : tie.Need-same-length-2
 same-length-2 c = search needs
 
 returns-2 : tie.Need-returns-2
-unfolding replyOfDelete numberOf
+unfolding replyOfDelete numberOf deleteMarks
 returns-2 c =
     let i = c .before .before .before in
     let e = E i in
@@ -68,7 +75,7 @@ same-length-3 : tie.Need-same-length-3
 same-length-3 c = search needs
 
 returns-3 : tie.Need-returns-3
-unfolding replyOfDelete
+unfolding replyOfDelete deleteMarks
 returns-3 c =
     let i = c .before .before .before in
     let e = E i in

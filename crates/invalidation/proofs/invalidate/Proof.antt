@@ -9,7 +9,7 @@ use lib.Dec.{leb}
 use Rattle.lists.specs.Below.{nth}
 use Rattle.placement.specs.Rule.{takes, readable}
 use Rattle.table.specs.declared.Table.{Table}
-use Rattle.table.specs.Sound.{tableOf, column, usedOf, reads}
+use Rattle.table.specs.Parts.{tableOf, column, usedOf, reads}
 use Rattle.invalidation.proofs.Invalidating.{Left, left-inside, left-fits, left-few, left-no, left-yes, left-end}
 use Rattle.invalidation.proofs.invalidate.Statement.{statement}
 use Rattle.invalidation.proofs.invalidate.Tie as tie

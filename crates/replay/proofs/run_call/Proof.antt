@@ -25,8 +25,8 @@ K c = c .before .before .before .before .before .before .before
 abbrev S : tie.After-run-in → State
 S c = let a = K c .before .before .args in record { table = a .table; medium = a .medium .now }
 
-count-entry-requires : tie.Need-count-entry-requires
-count-entry-requires c κs =
+count-write-requires : tie.Need-count-write-requires
+count-write-requires c κs =
     let r = c .before .before .before in
     let a = K r .before .before .args in
     counts (S r) (a .number) (a .first) (a .second) (r .run-in .result) (r .run-in .ensures .0)
@@ -39,7 +39,7 @@ returns-2 c =
     let r = c .before .before .before .before in
     let a = K r .before .before .args in
     called-in (S r) (a .number) (a .first) (a .second) (r .run-in .result) (r .run-in .ensures .0) _ _
-    (λ e. omega (arith, K r .if1 .left)) (λ e. omega (arith, K r .if1 .left)) (c .count-entry .ensures) (r .run-in .ensures .1)
+    (λ e. omega (arith, K r .if1 .left)) (λ e. omega (arith, K r .if1 .left)) (c .count-write .ensures) (r .run-in .ensures .1)
 
 pub run-call-spec : {M : Type 1} → statement M
 run-call-spec =
@@ -49,6 +49,6 @@ run-call-spec =
     same-length
     returns
     run-in-requires
-    count-entry-requires
+    count-write-requires
     same-length-2
     returns-2)

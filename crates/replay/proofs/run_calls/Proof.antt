@@ -75,8 +75,8 @@ second l = nth (calls l) (3 * l .loop .i + 2)
 run-in-requires : tie.Need-run-in-requires Inv-loop μ-loop
 run-in-requires c κs = (λ e. omega arith, λ e. omega arith)
 
-count-entry-requires : tie.Need-count-entry-requires Inv-loop μ-loop
-count-entry-requires c κs =
+count-write-requires : tie.Need-count-write-requires Inv-loop μ-loop
+count-write-requires c κs =
     let r = c .before .before .before in
     let l = L (r .before .before .before .before .before .before .before .before) in
     counts (S l) (number l) (first l) (second l) (r .run-in .result) (r .run-in .ensures .0)
@@ -144,7 +144,7 @@ run-calls-spec =
     shared-slice-read-second
     run-change-requires
     run-in-requires
-    count-entry-requires
+    count-write-requires
     store-requires
     add-i
     loop-less

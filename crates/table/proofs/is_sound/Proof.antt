@@ -10,7 +10,8 @@ use Rattle.lists.proofs.Below.{total-more, allBelow-more}
 use Rattle.placement.specs.declared.Fraction.{Fraction}
 use Rattle.placement.specs.Rule.{shareOf, writeP}
 use Rattle.table.specs.declared.Table.{Table}
-use Rattle.table.specs.Sound.{tableOf, weightOf, usedOf, readP, readSound, serverSound, sound}
+use Rattle.table.specs.Parts.{tableOf, weightOf, usedOf, readP}
+use Rattle.table.specs.Sound.{readSound, serverSound, sound}
 use Rattle.table.proofs.Soundness.{tested-sound, server-unsound}
 use Rattle.table.proofs.is_sound.Statement.{statement}
 use Rattle.table.proofs.is_sound.Tie as tie

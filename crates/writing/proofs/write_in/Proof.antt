@@ -7,7 +7,7 @@ use native.Mathlib.Omega.{arith}
 use borrow.Author.Needs.{needs}
 use Rattle.medium.proofs.Places.{entry-in}
 use Rattle.table.specs.declared.Table.{Table}
-use Rattle.table.specs.Sound.{tableOf, usedOf}
+use Rattle.table.specs.Parts.{tableOf, usedOf}
 use Rattle.replies.specs.Refusal.{Row, firstOf}
 use Rattle.replies.specs.Reply.{numberOf, replyOfWrite}
 use Rattle.replies.proofs.Refusals.{settle-yes}
@@ -18,8 +18,8 @@ use Rattle.writing.proofs.Done.{write-refused, inside-set, written}
 use Rattle.writing.proofs.write_in.Statement.{statement}
 use Rattle.writing.proofs.write_in.Tie as tie
 
-write-requires : tie.Need-write-requires
-write-requires c κs = search needs
+plan-write-requires : tie.Need-plan-write-requires
+plan-write-requires c κs = search needs
 
 enum-known-plan : tie.Need-enum-known-plan
 enum-known-plan c = search needs
@@ -28,24 +28,24 @@ enum-known-plan-2 : tie.Need-enum-known-plan-2
 enum-known-plan-2 c = search needs
 
 -- the call's arguments, and its rows
-abbrev S : tie.After-write → tie.Start
+abbrev S : tie.After-plan-write → tie.Start
 S c = c .before .before .before
 
-abbrev T : tie.After-write → Table
+abbrev T : tie.After-plan-write → Table
 T c = let a = S c .args in tableOf (a .shape) (a .t2)
 
-abbrev M : tie.After-write → List ℕ
+abbrev M : tie.After-plan-write → List ℕ
 M c = S c .args .medium .now
 
-abbrev rows : tie.After-write → List Row
+abbrev rows : tie.After-plan-write → List Row
 rows c = writeRows (T c) (M c) (S c .args .id) (S c .args .value)
 
 refused-here : (c : tie.After-plan) → numberOf (c .plan .given .0 .0) ≡ firstOf (rows (c .before .before))
 unfolding planNumber
-refused-here c = sym (ap planNumber (c .plan .given .1)) ∙ c .before .before .write .ensures .0
+refused-here c = sym (ap planNumber (c .plan .given .1)) ∙ c .before .before .plan-write .ensures .0
 
 -- where the tests accept: the server planned
-abbrev W : tie.After-plan2 → tie.After-write
+abbrev W : tie.After-plan2 → tie.After-plan-write
 W c = c .before .before
 
 abbrev server : tie.After-plan2 → ℕ
@@ -53,7 +53,7 @@ server c = c .plan2 .given .0 .0
 
 accepted-here : (c : tie.After-plan2) → firstOf (rows (W c)) ≡ 0
 unfolding planNumber
-accepted-here c = sym (W c .write .ensures .0) ∙ ap planNumber (c .plan2 .given .1)
+accepted-here c = sym (W c .plan-write .ensures .0) ∙ ap planNumber (c .plan2 .given .1)
 
 facts : (c : tie.After-plan2) → WriteAccepted (T (W c)) (M (W c)) (S (W c) .args .id) (S (W c) .args .value)
 facts c = write-accepted _ _ _ _ (accepted-here c)
@@ -61,7 +61,7 @@ facts c = write-accepted _ _ _ _ (accepted-here c)
 -- it is the write server, it is there, and it has an entry left
 server-is : (c : tie.After-plan2) → server c ≡ target (T (W c)) (S (W c) .args .id)
 unfolding planServer
-server-is c = sym (ap planServer (c .plan2 .given .1)) ∙ W c .write .ensures .1 ∙ settle-yes (rows (W c)) _ 0 (accepted-here c)
+server-is c = sym (ap planServer (c .plan2 .given .1)) ∙ W c .plan-write .ensures .1 ∙ settle-yes (rows (W c)) _ 0 (accepted-here c)
 
 there : (c : tie.After-plan2) → server c < T (W c) .count
 there c = omega (arith, facts c .there, server-is c)
@@ -128,7 +128,7 @@ pub write-in-spec : {M : Type 1} → statement M
 write-in-spec =
     tie.close
     (tie.spec
-    write-requires
+    plan-write-requires
     enum-known-plan
     enum-known-plan-2
     array-copy-out-used

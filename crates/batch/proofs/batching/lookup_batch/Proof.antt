@@ -1,5 +1,6 @@
 -- `batch::lookup_batch` meets its contract. The invariant: how far the batch is, as `BatchFrom` says.
 use Prim.Native.Nat.{ℕ, suc, _+_, _-_, _≤_, _<_}
+use mathlib.Core.Bool.{false}
 use mathlib.Core.Path.{_≡_, sym, _∙_}
 use mathlib.Core.Logic.{⊎-elim}
 use mathlib.Core.List.{List}
@@ -10,8 +11,8 @@ use Rattle.lists.specs.Below.{nth}
 use Rattle.table.specs.declared.Table.{Table}
 use Rattle.replies.specs.Refusal.{firstOf}
 use Rattle.replies.proofs.Refusals.{settle-yes, settle-no}
-use Rattle.lookup.specs.Lookup.{lookupRows}
-use Rattle.lookup.proofs.Passed.{Ready}
+use Rattle.checks.specs.Ready.{readyRows}
+use Rattle.checks.proofs.Passed.{Ready}
 use Rattle.lookup.proofs.Finding.{each-inside}
 use Rattle.batch.proofs.BatchParts.{BatchFrom, servers, batch-refused, batch-start, mounted-few, ready-there, opened-few, batch-opened, batch-closed, ends-given, batch-done}
 use Rattle.batch.proofs.batching.lookup_batch.Statement.{statement}
@@ -60,13 +61,13 @@ begin-requires c κs = search needs
 few : (j : tie.Joined2 Inv-loop μ-loop) → length (I (J j)) ≤ 256
 few j = let e = j .before .before .before .before .before .before .before .before in omega (arith, e .if1 .left)
 
--- what the tests say of id 0, and how many servers the loop goes through
-number-here : (j : tie.Joined2 Inv-loop μ-loop) → j .before .check-number .result ≡ firstOf (lookupRows (T (J j)) (M (J j)) 0)
+-- what the tests say of an id in range, and how many servers the loop goes through
+number-here : (j : tie.Joined2 Inv-loop μ-loop) → j .before .check-number .result ≡ firstOf (readyRows (T (J j)) (M (J j)) false)
 number-here j = j .before .check-number .ensures ∙ j .before .before .ready .ensures
 
 servers-here : (j : tie.Joined2 Inv-loop μ-loop) → j .if2 .servers ≡ servers (T (J j)) (M (J j)) (I (J j))
 servers-here j =
-    let rows = lookupRows (T (J j)) (M (J j)) 0 in
+    let rows = readyRows (T (J j)) (M (J j)) false in
     let count = T (J j) .count in
     ⊎-elim
     (λ w. w .1 ∙ sym (settle-yes rows count 0 (sym (number-here j) ∙ w .0 .taken)))

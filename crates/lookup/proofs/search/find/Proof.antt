@@ -10,7 +10,7 @@ use Rattle.lists.specs.Below.{nth}
 use Rattle.lists.proofs.Tests.{true-not-false}
 use Rattle.medium.proofs.Places.{entry-inside}
 use Rattle.table.specs.declared.Table.{Table}
-use Rattle.table.specs.Sound.{tableOf, column}
+use Rattle.table.specs.Parts.{tableOf, column}
 use Rattle.lookup.specs.declared.Found.the-variants.{At}
 use Rattle.lookup.specs.Search.{searchFor, foundBy}
 use Rattle.lookup.proofs.Finding.{each-inside, serversLeft, entriesLeft, all-left, server-skipped, server-opened, no-server-left, entry-skipped, entry-met, no-entry-left}

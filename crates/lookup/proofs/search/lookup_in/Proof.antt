@@ -6,14 +6,15 @@ use native.Mathlib.Omega.{arith}
 use borrow.Author.Needs.{needs}
 use Rattle.medium.proofs.Entries.{live-used}
 use Rattle.table.specs.declared.Table.{Table}
-use Rattle.table.specs.Sound.{tableOf, usedOf}
+use Rattle.table.specs.Parts.{tableOf, usedOf}
 use Rattle.replies.specs.Refusal.{firstOf}
 use Rattle.replies.specs.Reply.{numberOf, replyOfLookup}
 use Rattle.replies.proofs.Answers.{check-refused, check-accepted}
 use Rattle.lookup.specs.Search.{searchFor}
 use Rattle.lookup.specs.Lookup.{lookupRows}
 use Rattle.lookup.specs.Opened.{Met}
-use Rattle.lookup.proofs.Passed.{Ready, lookup-accepted}
+use Rattle.checks.proofs.Passed.{Ready}
+use Rattle.lookup.proofs.Passed.{lookup-accepted}
 use Rattle.lookup.proofs.Finding.{each-inside}
 use Rattle.lookup.proofs.Searches.{met-some}
 use Rattle.lookup.proofs.Looked.{found-some, looked-none, looked-some, lookup-refused}
@@ -37,9 +38,11 @@ abbrev M : tie.After-ready → List ℕ
 M c = S c .args .medium .now
 
 refused-here : (c : tie.After-check) → numberOf (c .check .given .0 .0) ≡ firstOf (lookupRows (T (c .before .before)) (M (c .before .before)) (S (c .before .before) .args .id))
+unfolding lookupRows
 refused-here c = check-refused (lookupRows (T (c .before .before)) (M (c .before .before)) (S (c .before .before) .args .id)) (c .before .before .ready .ensures) (c .check .given .1)
 
 accepted-here : (c : tie.After-enum-told) → firstOf (lookupRows (T (c .before .before)) (M (c .before .before)) (S (c .before .before) .args .id)) ≡ 0
+unfolding lookupRows
 accepted-here c = check-accepted (lookupRows (T (c .before .before)) (M (c .before .before)) (S (c .before .before) .args .id)) (c .before .before .ready .ensures) (c .enum-told .given .1)
 
 returns : tie.Need-returns

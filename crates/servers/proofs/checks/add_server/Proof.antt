@@ -10,7 +10,8 @@ use lib.ListN.{length}
 use Rattle.medium.specs.Entry.{serverAt, blankRun}
 use Rattle.medium.proofs.Places.{server-next}
 use Rattle.table.specs.declared.Table.{Table}
-use Rattle.table.specs.Sound.{tableOf, sound}
+use Rattle.table.specs.Parts.{tableOf}
+use Rattle.table.specs.Sound.{sound}
 use Rattle.table.proofs.Soundness.{Sound, sound-facts}
 use Rattle.replies.specs.Refusal.{firstOf}
 use Rattle.replies.specs.Reply.{numberOf, checkNumber}

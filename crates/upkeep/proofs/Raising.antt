@@ -14,22 +14,15 @@ use Rattle.placement.specs.declared.Fraction.{Fraction}
 use Rattle.placement.specs.Fraction.{atLeast, raise}
 use Rattle.placement.specs.Rule.{shareOf, writeP}
 use Rattle.placement.proofs.Fractions.{fraction-eq}
 use Rattle.table.specs.declared.Table.{Table}
-use Rattle.table.specs.Sound.{weightOf, readP}
+use Rattle.table.specs.Parts.{shapeOf, tableBy, weightOf, readP}
 
 -- ReadP of server k, raised
 abbrev pub better : Table → ℕ → Fraction
 better t k = raise (readP t k) (writeP (weightOf t) k)
 
 abbrev pub withReads : Table → List ℕ → List ℕ → Table
-withReads t numerators denominators = record {
-  capacity = t .capacity;
-  count = t .count;
-  weights = t .weights;
-  used = t .used;
-  numerators = numerators;
-  denominators = denominators;
-}
+withReads t numerators denominators = tableBy (shapeOf t) (t .weights) (t .used) numerators denominators
 
 unfoldable pub raisedBelow : Table → ℕ → Table
 raisedBelow t n = withReads t (setBelow (λ k. better t k .num) n (t .numerators)) (setBelow (λ k. better t k .den) n (t .denominators))

@@ -1,4 +1,4 @@
--- `table::with_server` meets its contract. The sum is in range because the table is sound.
+-- `upkeep::with_server` meets its contract. The sum is in range because the table is sound.
 use Prim.Native.Nat.{ℕ, _+_, _*_, _≤_, _<_}
 use mathlib.Core.Path.{_≡_}
 use native.Mathlib.Numerals.{add-one}
@@ -11,12 +11,12 @@ use Rattle.lists.specs.Below.{nth, total}
 use Rattle.lists.proofs.Below.{total-le, total-cong}
 use Rattle.placement.specs.declared.Fraction.{Fraction}
 use Rattle.placement.specs.Rule.{shareOf, writeP}
 use Rattle.table.specs.declared.Table.{Table}
-use Rattle.table.specs.Sound.{weightOf}
-use Rattle.table.specs.Upkeep.{withServer}
+use Rattle.table.specs.Parts.{tableBy, weightOf}
+use Rattle.upkeep.specs.Upkeep.{withServer}
 use Rattle.table.proofs.Soundness.{sound-facts, sound-bounded}
-use Rattle.table.proofs.with_server.Statement.{statement}
-use Rattle.table.proofs.with_server.Tie as tie
+use Rattle.upkeep.proofs.with_server.Statement.{statement}
+use Rattle.upkeep.proofs.with_server.Tie as tie
 
 -- WriteP of the new server, from the sum of the weights before it
 new-write : (ws : List ℕ) (n w : ℕ) → n < length ws → writeP (nth (set ws n w)) n ≡ shareOf n w (total (nth ws) n + w)
@@ -25,14 +25,12 @@ new-write ws n w l = rw (getD-set-same ws n w 0 l, total-cong (nth (set ws n w))
 
 -- the table that the code puts together
 made : (t : Table) (weight sum : ℕ) (write : Fraction) → t .count < length (t .weights) → sum ≡ total (weightOf t) (t .count) → write ≡ shareOf (t .count) weight (sum + weight)
-    → record {
-      capacity = t .capacity;
-      count = t .count + 1;
-      weights = set (t .weights) (t .count) weight;
-      used = set (t .used) (t .count) 0;
-      numerators = set (t .numerators) (t .count) (write .num);
-      denominators = set (t .denominators) (t .count) (write .den);
-    }
+    → tableBy
+    (record { capacity = t .capacity; count = t .count + 1 })
+    (set (t .weights) (t .count) weight)
+    (set (t .used) (t .count) 0)
+    (set (t .numerators) (t .count) (write .num))
+    (set (t .denominators) (t .count) (write .den))
     ≡ withServer t weight
 unfolding withServer
 made t weight sum write l s e = rw (new-write (t .weights) (t .count) weight l, ← s, ← e, add-one)

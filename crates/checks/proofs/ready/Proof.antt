@@ -1,17 +1,18 @@
--- `lookup::ready` meets its contract: a return for each row, in order.
+-- `checks::ready` meets its contract: a return for each row, in order.
 use mathlib.Core.Bool.{true, false}
 use mathlib.Core.Path.{_≡_, sym, _∙_}
 use native.Mathlib.Omega.{arith}
 use borrow.Author.Needs.{needs}
-use borrow.Author.Tests.{lt-ltb, le-ltb, le-leb, lt-leb, eq-eqb, ne-eqb, not-true, not-false}
+use borrow.Author.Tests.{lt-ltb, le-ltb, eq-eqb, ne-eqb, not-true, not-false}
 use Rattle.table.specs.declared.Table.{Table}
-use Rattle.table.specs.Sound.{tableOf, sound}
+use Rattle.table.specs.Parts.{tableOf}
+use Rattle.table.specs.Sound.{sound}
 use Rattle.table.proofs.Soundness.{sound-facts}
 use Rattle.replies.specs.Refusal.{firstOf}
 use Rattle.replies.specs.Reply.{numberOf, checkNumber}
-use Rattle.lookup.specs.Lookup.{short, lookupRows}
-use Rattle.lookup.proofs.checks.ready.Statement.{statement}
-use Rattle.lookup.proofs.checks.ready.Tie as tie
+use Rattle.checks.specs.Ready.{short, readyRows}
+use Rattle.checks.proofs.ready.Statement.{statement}
+use Rattle.checks.proofs.ready.Tie as tie
 
 -- the table that is tested
 abbrev T : tie.After-is-sound → Table
@@ -27,16 +28,16 @@ is-sound : (c : tie.Else1) → sound (T (c .before)) ≡ true
 is-sound c = sym (c .before .is-sound .ensures) ∙ not-false _ (c .if1 .left)
 
 returns : tie.Need-returns
-unfolding checkNumber numberOf lookupRows firstOf
+unfolding checkNumber numberOf readyRows firstOf
 returns c = rw (unsound c)
 
 returns-2 : tie.Need-returns-2
-unfolding checkNumber numberOf lookupRows firstOf
-returns-2 c = rw (is-sound (c .before), le-leb _ _ (c .if2 .taken))
+unfolding checkNumber numberOf readyRows firstOf
+returns-2 c = rw (is-sound (c .before), c .if2 .taken)
 
 returns-3 : tie.Need-returns-3
-unfolding checkNumber numberOf lookupRows firstOf
-returns-3 c = rw (is-sound (c .before .before), lt-leb _ _ (c .before .if2 .left), eq-eqb _ _ (c .if3 .taken))
+unfolding checkNumber numberOf readyRows firstOf
+returns-3 c = rw (is-sound (c .before .before), c .before .if2 .left, eq-eqb _ _ (c .if3 .taken))
 
 cast-server-at : tie.Need-cast-server-at
 cast-server-at c = search needs
@@ -45,16 +46,16 @@ server-at-requires : tie.Need-server-at-requires
 server-at-requires c κs = let s = sound-facts (T (c .before .before .before)) (is-sound (c .before .before)) in omega arith
 
 returns-4 : tie.Need-returns-4
-unfolding checkNumber numberOf lookupRows firstOf short
+unfolding checkNumber numberOf readyRows firstOf short
 returns-4 c =
     let e = c .before .before in
-    rw (is-sound (e .before .before), lt-leb _ _ (e .before .if2 .left), ne-eqb _ _ (e .if3 .left), ← c .before .server-at .ensures, lt-ltb _ _ (c .if4 .taken))
+    rw (is-sound (e .before .before), e .before .if2 .left, ne-eqb _ _ (e .if3 .left), ← c .before .server-at .ensures, lt-ltb _ _ (c .if4 .taken))
 
 returns-5 : tie.Need-returns-5
-unfolding checkNumber lookupRows firstOf short
+unfolding checkNumber readyRows firstOf short
 returns-5 c =
     let e = c .before .before in
-    rw (is-sound (e .before .before), lt-leb _ _ (e .before .if2 .left), ne-eqb _ _ (e .if3 .left), ← c .before .server-at .ensures, le-ltb _ _ (c .if4 .left))
+    rw (is-sound (e .before .before), e .before .if2 .left, ne-eqb _ _ (e .if3 .left), ← c .before .server-at .ensures, le-ltb _ _ (c .if4 .left))
 
 pub ready-spec : {M : Type 1} → statement M
 ready-spec =

@@ -5,25 +5,16 @@ use mathlib.Core.Path.{_≡_, refl}
 use mathlib.Core.Logic.{_≢_}
 use mathlib.Core.Bool.{true}
 use native.Mathlib.Omega.{arith}
-use lib.ListN.{length, length-set}
+use lib.ListN.{length-set}
 use lib.Seq.{getD-set-same, getD-set-other}
 use Rattle.lists.proofs.Below.{length-setBelow, setBelow-at}
 use Rattle.placement.specs.Fraction.{atLeast, raise}
 use Rattle.placement.specs.Rule.{writeP}
 use Rattle.placement.proofs.Fractions.{raise-old, fraction-eq}
 use Rattle.table.specs.declared.Table.{Table}
-use Rattle.table.specs.Sound.{weightOf, usedOf, readP}
-use Rattle.table.specs.Upkeep.{empty, withServer, withWeight, withEntry}
-
--- the lengths, which the lists of the logic do not say by themselves
-pub record Arrays (t : Table) : Type 0 where
-  pub weights : length (t .weights) ≡ 256
-  pub used : length (t .used) ≡ 256
-  pub numerators : length (t .numerators) ≡ 256
-  pub denominators : length (t .denominators) ≡ 256
-
-pub empty-arrays : (capacity : ℕ) → Arrays (empty capacity)
-empty-arrays capacity = record { weights = refl; used = refl; numerators = refl; denominators = refl }
+use Rattle.table.specs.Parts.{weightOf, usedOf, readP}
+use Rattle.table.proofs.Soundness.{Arrays}
+use Rattle.upkeep.specs.Upkeep.{withServer, withWeight, oneMore, withEntry}
 
 pub withServer-arrays : (t : Table) (weight : ℕ) → Arrays t → Arrays (withServer t weight)
 unfolding withServer
@@ -44,7 +35,7 @@ withWeight-arrays t server weight a = record {
 }
 
 pub withEntry-arrays : (t : Table) (server : ℕ) → Arrays t → Arrays (withEntry t server)
-unfolding withEntry
+unfolding withEntry oneMore
 withEntry-arrays t server a = record {
   weights = a .weights;
   used = simp length-set (a .used);
@@ -112,7 +103,7 @@ withWeight-is t server weight a l s = record {
 }
 
 pub withEntry-is : (t : Table) (server : ℕ) → Arrays t → t .count ≤ 256 → server < t .count → EntryAdded t server (withEntry t server)
-unfolding withEntry
+unfolding withEntry oneMore
 withEntry-is t server a l s = record {
   capacity = refl;
   count = refl;

@@ -1,4 +1,4 @@
--- `table::with_weight` meets its contract. The invariant: every ReadP so far is raised, and the sum of the weights so far.
+-- `upkeep::with_weight` meets its contract. The invariant: every ReadP so far is raised, and the sum of the weights so far.
 use Prim.Native.Nat.{_*_, _-_, _≤_, _<_}
 use mathlib.Core.Path.{_≡_, refl, sym, ap, _∙_}
 use mathlib.Core.Bool.{true, false}
@@ -8,14 +8,14 @@ use lib.ListN.{set}
 use borrow.Author.Needs.{needs}
 use borrow.Author.Tests.{not-true, not-false}
 use Rattle.lists.specs.Below.{nth, total, setBelow}
 use Rattle.table.specs.declared.Table.{Table}
-use Rattle.table.specs.Sound.{weightOf}
-use Rattle.table.specs.Upkeep.{withWeight}
-use Rattle.table.proofs.Upkeep.{Arrays}
-use Rattle.table.proofs.Soundness.{sound-facts, withWeight-light}
-use Rattle.table.proofs.Raising.{raisedBelow, same-weights, sum-more, raise-more}
-use Rattle.table.proofs.with_weight.Statement.{statement}
-use Rattle.table.proofs.with_weight.Tie as tie
+use Rattle.table.specs.Parts.{weightOf}
+use Rattle.upkeep.specs.Upkeep.{withWeight}
+use Rattle.table.proofs.Soundness.{Arrays, sound-facts}
+use Rattle.upkeep.proofs.KeptSound.{withWeight-light}
+use Rattle.upkeep.proofs.Raising.{raisedBelow, same-weights, sum-more, raise-more}
+use Rattle.upkeep.proofs.with_weight.Statement.{statement}
+use Rattle.upkeep.proofs.with_weight.Tie as tie
 
 abbrev Inv-loop : tie.InvT-loop
 Inv-loop server weight count next₀ sum₀ i₀ next sum i =

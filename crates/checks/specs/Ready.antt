@@ -1,0 +1,24 @@
+-- The refusals that write, delete and lookup share (document 01's table), as rows in the order of the tests: the table, the range
+-- of the arguments, a server, and enough words. t is the table and m the medium as lent.
+use Prim.Native.Nat.{ℕ}
+use mathlib.Core.Bool.{Bool, not}
+use mathlib.Core.List.{List, [], _∷_}
+use lib.ListN.{length}
+use lib.Dec.{ltb, eqb}
+use Rattle.medium.specs.Entry.{serverAt}
+use Rattle.table.specs.declared.Table.{Table}
+use Rattle.table.specs.Sound.{sound}
+use Rattle.replies.specs.Refusal.{Row, _when_}
+
+-- fewer words than the servers have
+unfoldable pub short : Table → List ℕ → Bool
+short t m = ltb (length m) (serverAt (t .capacity) (t .count))
+
+-- `outside` says whether an argument of the call is out of range
+unfoldable pub readyRows : Table → List ℕ → Bool → List Row
+readyRows t m outside =
+    1 when not (sound t)
+    ∷ 2 when outside
+    ∷ 3 when eqb (t .count) 0
+    ∷ 5 when short t m
+    ∷ []

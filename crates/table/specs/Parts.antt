@@ -1,0 +1,54 @@
+-- A table taken apart and put together again: its shape, which are its numbers that are not one for each server, and its four
+-- columns, in the order of the fields.
+use Prim.Native.Nat.{ℕ}
+use mathlib.Core.Bool.{Bool}
+use mathlib.Core.List.{List, []}
+use lib.ListN.{getD, replicate}
+use denote.Ref.{RefT}
+use Rattle.lists.specs.Below.{nth}
+use Rattle.placement.specs.declared.Fraction.{Fraction}
+use Rattle.placement.specs.Rule.{readable}
+use Rattle.table.specs.declared.Table.{Table}
+use Rattle.table.specs.declared.Shape.{Shape}
+
+abbrev pub shapeOf : Table → Shape
+shapeOf t = record { capacity = t .capacity; count = t .count }
+
+abbrev pub tableBy : Shape → List ℕ → List ℕ → List ℕ → List ℕ → Table
+tableBy shape weights used numerators denominators = record {
+  capacity = shape .capacity;
+  count = shape .count;
+  weights = weights;
+  used = used;
+  numerators = numerators;
+  denominators = denominators;
+}
+
+-- the columns lent together: what stands in column i
+abbrev pub column : List (RefT (List ℕ)) → ℕ → List ℕ
+column columns i = getD columns i (record { ptr = (0, 0); name = 0; now = [] }) .now
+
+-- the table that they belong to
+abbrev pub tableOf : Shape → List (RefT (List ℕ)) → Table
+tableOf shape columns = tableBy shape (column columns 0) (column columns 1) (column columns 2) (column columns 3)
+
+-- a column of zeros, and the table of count 0
+abbrev pub zeros : List ℕ
+zeros = replicate 256 0
+
+abbrev pub empty : ℕ → Table
+empty capacity = tableBy (record { capacity = capacity; count = 0 }) zeros zeros zeros zeros
+
+-- weight, entries used and ReadP of server k
+abbrev pub weightOf : Table → ℕ → ℕ
+weightOf t k = nth (t .weights) k
+
+abbrev pub usedOf : Table → ℕ → ℕ
+usedOf t k = nth (t .used) k
+
+abbrev pub readP : Table → ℕ → Fraction
+readP t k = record { num = nth (t .numerators) k; den = nth (t .denominators) k }
+
+-- server k is read for an id: its ReadP exceeds its draw
+abbrev pub reads : Table → ℕ → ℕ → Bool
+reads t id k = readable (readP t) id k

@@ -1,0 +1,4 @@
+pub mod Upkeep
+pub mod KeptSound
+pub mod KeptAgreeing
+mod Raising

@@ -1,0 +1,26 @@
+-- `upkeep::count_entry` meets its contract.
+use native.Mathlib.Numerals.{add-one}
+use borrow.Author.Needs.{needs}
+use Rattle.upkeep.specs.Upkeep.{oneMore}
+use Rattle.upkeep.proofs.count_entry.Statement.{statement}
+use Rattle.upkeep.proofs.count_entry.Tie as tie
+
+mul-used : tie.Need-mul-used
+mul-used c = search needs
+
+element-copy-out-used : tie.Need-element-copy-out-used
+element-copy-out-used c = search needs
+
+add-used : tie.Need-add-used
+add-used c = search needs
+
+element-write-used : tie.Need-element-write-used
+element-write-used c = search needs
+
+returns : tie.Need-returns
+unfolding oneMore
+returns c = rw add-one
+
+pub count-entry-spec : {M : Type 1} → statement M
+count-entry-spec =
+    tie.close (tie.spec mul-used element-copy-out-used add-used element-write-used returns)
