@@ -10,11 +10,12 @@ use native.Mathlib.Omega.{arith}
 use lib.ListN.{length}
 use lib.Dec.{leb, eqb}
 use borrow.Author.Tests.{eqb-true, eqb-false, eq-eqb, le-leb, lt-leb}
+use Rattle.limits.specs.Limits.{contentRange}
 use Rattle.lists.specs.Below.{nth, countBelow}
 use Rattle.lists.proofs.Tests.{byBool}
 use Rattle.lists.proofs.Below.{countBelow-cong, countBelow-none}
 use Rattle.placement.specs.Rule.{readable, takes}
-use Rattle.medium.specs.Word.{contentRange, tagOf}
+use Rattle.medium.specs.Word.{tagOf}
 use Rattle.medium.specs.Entry.{valueAt}
 use Rattle.table.specs.declared.Table.{Table}
 use Rattle.table.specs.Parts.{usedOf, readP, reads}

@@ -6,11 +6,11 @@ use mathlib.Core.List.{List}
 use mathlib.Core.Option.{Option, none, some}
 use lib.ListN.{length, replicate}
 use lib.Dec.{leb, eqb}
+use Rattle.limits.specs.Limits.{contentRange}
 use Rattle.lists.specs.Below.{nth, someBelow, highest, upward, setBelow}
 use Rattle.placement.specs.declared.Fraction.{Fraction}
 use Rattle.placement.specs.Draw.{modulus, drawOf}
 use Rattle.placement.specs.Fraction.{exceeds}
-use Rattle.medium.specs.Word.{contentRange}
 use Rattle.medium.specs.Entry.{live}
 use Rattle.lookup.specs.Lookup.{metReply}
 use Rattle.batch.specs.declared.Newest.{Newest}

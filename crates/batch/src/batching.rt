@@ -23,7 +23,7 @@ fn first_refusal(number: u32, id: u32) -> u32
     if number == 1 {
         return 1;
     }
-    if medium::CONTENT_RANGE <= id {
+    if limits::CONTENT_RANGE <= id {
         return 2;
     }
     if number == 0 {

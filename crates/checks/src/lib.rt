@@ -6,10 +6,11 @@ ghost use Rattle.replies.specs.Reply.{checkNumber};
 ghost use Rattle.checks.specs.Ready.{readyRows};
 use replies::Check;
 use replies::Refusal;
+use table::Columns;
 use table::Shape;
 
 // The tests in the order of document 01's numbers. `outside` says whether an argument of the call is out of range.
-pub fn ready<'a>(shape: Shape, columns: [&'a [u32; 256]; 4], medium: &[u32], outside: bool) -> Check
+pub fn ready<'a>(shape: Shape, columns: Columns<'a>, medium: &[u32], outside: bool) -> Check
     ensures { λ r. ⌜ checkNumber r ≡ firstOf (readyRows (tableOf shape (columns .entry)) (now (medium .entry)) outside) ⌝ }
 {
     let capacity = shape.capacity;

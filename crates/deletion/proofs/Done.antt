@@ -10,8 +10,9 @@ use native.Mathlib.Omega.{arith}
 use lib.ListN.{length}
 use lib.Dec.{leb, eqb}
 use borrow.Author.Tests.{eq-eqb, ne-eqb, le-leb}
+use Rattle.limits.specs.Limits.{contentRange}
 use Rattle.lists.proofs.Tests.{byBool}
-use Rattle.medium.specs.Word.{contentRange, deleted}
+use Rattle.medium.specs.Word.{deleted}
 use Rattle.medium.specs.Burn.{burnAll, marksOver, invalidations}
 use Rattle.medium.proofs.Marks.{marksOver-cong, marks-in, marks-out}
 use Rattle.table.specs.declared.Table.{Table}

@@ -6,7 +6,8 @@ use mathlib.Core.List.{List, [], _∷_, _++_}
 use mathlib.Core.Option.{Option, none, some}
 use lib.ListN.{length}
 use lib.Dec.{leb}
-use Rattle.medium.specs.Word.{contentRange, deleted}
+use Rattle.limits.specs.Limits.{contentRange}
+use Rattle.medium.specs.Word.{deleted}
 use Rattle.medium.specs.Burn.{burnAll, invalidations}
 use Rattle.table.specs.declared.Table.{Table}
 use Rattle.replies.specs.Refusal.{Row, _when_, settle}

@@ -3,23 +3,25 @@ ghost use mathlib.Core.Path.{_≡_};
 ghost use Rattle.table.specs.Parts.{tableOf};
 ghost use Rattle.replies.specs.Reply.{replyOfDelete};
 ghost use Rattle.deletion.specs.Deletion.{deleteReply, deleteMedium};
+use limits::CONTENT_RANGE;
 use replies::Check;
 use replies::DeleteAnswer;
 use replies::Refusal;
+use table::Columns;
 use table::Shape;
 use table::Table;
 
 // Delete on a table whose arrays are borrowed.
 pub fn delete_in<'a>(
     shape: Shape,
-    columns: [&'a [u32; 256]; 4],
+    columns: Columns<'a>,
     medium: &mut [u32],
     id: u32,
 ) -> DeleteAnswer
     ensures reply { λ r. ⌜ replyOfDelete r ≡ deleteReply (tableOf shape (columns .entry)) (now (medium .entry)) id ⌝ }
     ensures medium { λ _. ⌜ now (medium .exit) ≡ deleteMedium (tableOf shape (columns .entry)) (now (medium .entry)) id ⌝ }
 {
-    let check = checks::ready(shape, columns, medium, medium::CONTENT_RANGE <= id);
+    let check = checks::ready(shape, columns, medium, CONTENT_RANGE <= id);
     if let Check::Refused(refusal) = check {
         return DeleteAnswer::Refused(refusal);
     }

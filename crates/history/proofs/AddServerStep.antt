@@ -10,6 +10,7 @@ use native.Mathlib.Nat.{add-zero}
 use lib.ListN.{length}
 use lib.Dec.{ltb, eqb}
 use borrow.Author.Tests.{ltb-false, eqb-true, eqb-false}
+use Rattle.limits.specs.Limits.{contentRange}
 use Rattle.lists.specs.Below.{nth}
 use Rattle.lists.proofs.Tests.{byBool}
 use Rattle.placement.specs.declared.Fraction.{Fraction}
@@ -29,7 +30,7 @@ use Rattle.replies.specs.Refusal.{firstOf}
 use Rattle.replies.proofs.Refusals.{passed, settle-yes, settle-no}
 use Rattle.servers.specs.Servers.{addServerRows, addServerReply, addServerTable}
 use Rattle.history.specs.Call.{addServer, compared}
-use Rattle.history.specs.Ledger.{Event, Ledger, told, usedBy, standing, range, put, addServerRowsL, withServerL, enter}
+use Rattle.history.specs.Ledger.{Event, Ledger, told, usedBy, standing, put, addServerRowsL, withServerL, enter}
 use Rattle.history.proofs.Tops.{top-wider}
 use Rattle.history.proofs.Events.{placeOf}
 use Rattle.history.proofs.Holds.{Holds}
@@ -41,7 +42,7 @@ module _ {capacity count : ℕ} {greatest : ℕ → Fraction} {events : List Eve
   new-blank : (j q : ℕ) → j < capacity → q < 3 → nth m (entryAt capacity count j + q) ≡ blank
   new-blank j q i b = H .rest (entryAt capacity count j + q) (entry-above capacity count j q) (omega (arith, entry-in capacity (suc count) count j q (omega arith) i b))
 
-  not-borne : (id j : ℕ) → id < range → j < capacity → bears capacity m id count j ≡ true → ⊥
+  not-borne : (id j : ℕ) → id < contentRange → j < capacity → bears capacity m id count j ≡ true → ⊥
   not-borne id j n i b = omega (arith, bears-id capacity m id count j b, rw add-zero at (new-blank j 0 i (omega arith)))
 
   wider-holds : (wider : ℕ → Fraction) → ((k : ℕ) → k < count → wider k ≡ greatest k) → Holds capacity (suc count) wider events m

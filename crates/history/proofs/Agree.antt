@@ -11,6 +11,7 @@ use native.Mathlib.Omega.{arith}
 use lib.ListN.{length}
 use lib.Dec.{ltb, eqb}
 use borrow.Author.Tests.{eqb-true, eqb-false, eq-eqb, ne-eqb}
+use Rattle.limits.specs.Limits.{contentRange}
 use Rattle.lists.proofs.Tests.{byBool}
 use Rattle.placement.specs.Draw.{modulus, drawOf}
 use Rattle.placement.specs.Rule.{pick, writeServer, readable}
@@ -32,7 +33,7 @@ use Rattle.lookup.specs.Search.{Place, searchFor}
 use Rattle.lookup.proofs.Searches.{met-some, met-none}
 use Rattle.writing.specs.Writing.{target}
 use Rattle.history.specs.Call.{compared}
-use Rattle.history.specs.Ledger.{Ledger, Entered, enterBy, put, usedBy, standing, range, shortL, readyRowsL, targetL}
+use Rattle.history.specs.Ledger.{Ledger, Entered, enterBy, put, usedBy, standing, shortL, readyRowsL, targetL}
 use Rattle.history.proofs.Tops.{TopAt, top-same}
 use Rattle.history.proofs.Events.{placeOf}
 use Rattle.history.proofs.Entering.{entered}
@@ -117,14 +118,14 @@ module _ {t : Table} {m : List ℕ} {L : Ledger} (A : Agree t m L) where
   abbrev B : ℕ → ℕ → ℕ → Bool
   B id k j = bears (t .capacity) m id k j
 
-  bears-live : (id k j : ℕ) → id < range → k < t .count → j < t .capacity → B id k j ≡ true → live (t .capacity) (usedOf t k) m id k j ≡ true
+  bears-live : (id k j : ℕ) → id < contentRange → k < t .count → j < t .capacity → B id k j ≡ true → live (t .capacity) (usedOf t k) m id k j ≡ true
   bears-live id k j n l i b = live-i (t .capacity) (usedOf t k) m id k j
       (omega (arith, A .used k l, bears-used (A .holds) id k j n l i b)) b
 
-  bears-read : (id k j : ℕ) → id < range → k < t .count → j < t .capacity → B id k j ≡ true → reads t id k ≡ true
+  bears-read : (id k j : ℕ) → id < contentRange → k < t .count → j < t .capacity → B id k j ≡ true → reads t id k ≡ true
   bears-read id k j n l i b = same-reads id k l ∙ A .holds .opens id k j n l i b
 
-  meets : (id : ℕ) → id < range → TopAt (B id) (t .count) (t .capacity) (searchFor t m id .met)
+  meets : (id : ℕ) → id < contentRange → TopAt (B id) (t .count) (t .capacity) (searchFor t m id .met)
   unfolding TopAt
   meets id n = go (searchFor t m id .met) refl
     where
@@ -142,5 +143,5 @@ module _ {t : Table} {m : List ℕ} {L : Ledger} (A : Agree t m L) where
                 record { below = y .0; beside = y .1 };
           }
 
-  pub same-met : (id : ℕ) → id < range → searchFor t m id .met ≡ placeOf (standing (L .events) id)
+  pub same-met : (id : ℕ) → id < contentRange → searchFor t m id .met ≡ placeOf (standing (L .events) id)
   same-met id n = top-same (B id) (t .count) (t .capacity) (searchFor t m id .met) (placeOf (standing (L .events) id)) (meets id n) (A .holds .tops id n)

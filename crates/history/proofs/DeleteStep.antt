@@ -6,6 +6,7 @@ use mathlib.Core.Path.{_≡_, refl, ap, _∙_}
 use mathlib.Core.List.{List}
 use mathlib.Core.Option.{Option, none, some}
 use lib.Dec.{leb}
+use Rattle.limits.specs.Limits.{contentRange}
 use Rattle.placement.specs.Rule.{readable}
 use Rattle.medium.specs.Word.{deleted as deletedMark}
 use Rattle.medium.specs.Burn.{burnAll, invalidations}
@@ -21,13 +22,13 @@ use Rattle.lookup.proofs.Passed.{in-range}
 use Rattle.deletion.proofs.Done.{delete-all, delete-ready}
 use Rattle.deletion.specs.Deletion.{isMet, deleteRows, deleteMarks, deleteReply, deleteMedium}
 use Rattle.history.specs.Call.{delete, compared}
-use Rattle.history.specs.Ledger.{deleted, Ledger, Standing, usedBy, standing, isStanding, range, withEvent, deleteRowsL, enter}
+use Rattle.history.specs.Ledger.{deleted, Ledger, Standing, usedBy, standing, isStanding, withEvent, deleteRowsL, enter}
 use Rattle.history.proofs.Events.{placeOf}
 use Rattle.history.proofs.Deleting.{afterDelete, delete-holds}
 use Rattle.history.proofs.Agree.{Agree, Step, settled, same-ready, ledger-numbered, same-reads, same-marks, same-met}
 
 module _ {t : Table} {m : List ℕ} {L : Ledger} (A : Agree t m L) (id : ℕ) where
-  same-found : id < range → isMet (searchFor t m id .met) ≡ isStanding (standing (L .events) id)
+  same-found : id < contentRange → isMet (searchFor t m id .met) ≡ isStanding (standing (L .events) id)
   unfolding isMet isStanding placeOf
   same-found n = ap isMet (same-met A id n) ∙ go (standing (L .events) id)
     where
@@ -37,10 +38,10 @@ module _ {t : Table} {m : List ℕ} {L : Ledger} (A : Agree t m L) (id : ℕ) wh
 
   pub same-rows : firstOf (deleteRows t m id) ≡ firstOf (deleteRowsL L id)
   unfolding deleteRows deleteRowsL lookupRows
-  same-rows = more-same _ _ _ _ (ready-numbered t m _) (ledger-numbered L _) (same-ready A (leb range id)) (λ z.
+  same-rows = more-same _ _ _ _ (ready-numbered t m _) (ledger-numbered L _) (same-ready A (leb contentRange id)) (λ z.
       first-same 8 _ _ _ _ (ap not (same-found (in-range t m id z))) (λ _. refl))
 
-  pub accepted-id : firstOf (deleteRows t m id) ≡ 0 → id < range
+  pub accepted-id : firstOf (deleteRows t m id) ≡ 0 → id < contentRange
   unfolding lookupRows
   accepted-id z = in-range t m id (delete-ready t m id z)
 
@@ -48,7 +49,7 @@ module _ {t : Table} {m : List ℕ} {L : Ledger} (A : Agree t m L) (id : ℕ) wh
   pub delete-medium : burnAll m (invalidations deletedMark (deleteMarks t m id)) ≡ afterDelete (t .capacity) (t .count) (L .greatest) (L .events) m id
   delete-medium = ap (λ (marks : List ℕ). burnAll m (invalidations deletedMark marks)) (delete-all t m id ∙ same-marks A id (reads t id) (readable (L .greatest) id) (same-reads A id))
 
-  agrees : id < range → Agree t (burnAll m (invalidations deletedMark (deleteMarks t m id))) (withEvent L (deleted id))
+  agrees : id < contentRange → Agree t (burnAll m (invalidations deletedMark (deleteMarks t m id))) (withEvent L (deleted id))
   unfolding withEvent usedBy
   agrees n = record {
     isSound = A .isSound;

@@ -8,13 +8,14 @@ use mathlib.Core.List.{List, _∷_}
 use native.Mathlib.Omega.{arith}
 use lib.Dec.{eqb}
 use borrow.Author.Tests.{eqb-true, eqb-false}
+use Rattle.limits.specs.Limits.{contentRange}
 use Rattle.lists.proofs.Tests.{byBool, iff-eq, except}
 use Rattle.placement.specs.declared.Fraction.{Fraction}
 use Rattle.placement.specs.Rule.{readable}
 use Rattle.medium.specs.Word.{deleted as deletedMark}
 use Rattle.medium.specs.Entry.{bears}
 use Rattle.medium.specs.Burn.{burnAll, marksOver, invalidations}
-use Rattle.history.specs.Ledger.{Event, deleted, usedBy, standing, range}
+use Rattle.history.specs.Ledger.{Event, deleted, usedBy, standing}
 use Rattle.history.proofs.Tops.{TopAt, top-cong}
 use Rattle.history.proofs.Events.{placeOf, each-deleted, deleted-self, deleted-other}
 use Rattle.history.proofs.Holds.{Holds, once-written}
@@ -24,7 +25,7 @@ use Rattle.history.proofs.Marking.{Invalidated, invalidated}
 abbrev pub afterDelete : ℕ → ℕ → (ℕ → Fraction) → List Event → List ℕ → ℕ → List ℕ
 afterDelete capacity count greatest events m id = burnAll m (invalidations deletedMark (marksOver capacity (usedBy events) m id (readable greatest id) count))
 
-module _ {capacity count : ℕ} {greatest : ℕ → Fraction} {events : List Event} {m : List ℕ} (H : Holds capacity count greatest events m) (id : ℕ) (small : id < range) where
+module _ {capacity count : ℕ} {greatest : ℕ → Fraction} {events : List Event} {m : List ℕ} (H : Holds capacity count greatest events m) (id : ℕ) (small : id < contentRange) where
   abbrev N : List ℕ
   N = afterDelete capacity count greatest events m id
 
@@ -41,7 +42,7 @@ module _ {capacity count : ℕ} {greatest : ℕ → Fraction} {events : List Eve
       (done .less a k j i)
       (λ d b. done .others a k j l i (λ e. eqb-false id a d (sym e)) b)
 
-  others-stand : (a : ℕ) → a < range → a ≢ id → TopAt (bears capacity N a) count capacity (placeOf (standing events a))
+  others-stand : (a : ℕ) → a < contentRange → a ≢ id → TopAt (bears capacity N a) count capacity (placeOf (standing events a))
   others-stand a n f = top-cong (bears capacity m a) (bears capacity N a) count capacity
       (λ k j l i. iff-eq _ _ (done .less a k j i) (done .others a k j l i f))
       (placeOf (standing events a)) (H .tops a n)

@@ -10,6 +10,7 @@ use native.Mathlib.Nat.{add-zero}
 use lib.ListN.{length}
 use lib.Dec.{ltb, eqb}
 use borrow.Author.Tests.{ltb-true, ltb-false, eqb-true, eqb-false}
+use Rattle.limits.specs.Limits.{contentRange}
 use Rattle.lists.specs.Below.{nth}
 use Rattle.lists.proofs.Tests.{byBool}
 use Rattle.placement.specs.declared.Fraction.{Fraction}
@@ -17,7 +18,7 @@ use Rattle.placement.specs.Rule.{readable}
 use Rattle.medium.specs.Word.{idWord, valueWord, blank}
 use Rattle.medium.specs.Entry.{serverAt, entryAt, valueAt, bears}
 use Rattle.medium.proofs.Entries.{bears-id}
-use Rattle.history.specs.Ledger.{Event, usedBy, standing, range}
+use Rattle.history.specs.Ledger.{Event, usedBy, standing}
 use Rattle.history.proofs.Tops.{TopAt}
 use Rattle.history.proofs.Events.{placeOf, EachWrite, used-write}
 
@@ -25,8 +26,8 @@ use Rattle.history.proofs.Events.{placeOf, EachWrite, used-write}
 pub record Written (capacity : ℕ) (m : List ℕ) (id value server j : ℕ) : Type 0 where
   pub idThere : nth m (entryAt capacity server j) ≡ idWord id
   pub valueThere : nth m (valueAt capacity server j) ≡ valueWord value
-  pub idSmall : id < range
-  pub valueSmall : value < range
+  pub idSmall : id < contentRange
+  pub valueSmall : value < contentRange
 
 -- the medium m of `count` servers after the events, read by the fractions `greatest`
 pub record Holds (capacity count : ℕ) (greatest : ℕ → Fraction) (events : List Event) (m : List ℕ) : Type 0 where
@@ -39,15 +40,15 @@ pub record Holds (capacity count : ℕ) (greatest : ℕ → Fraction) (events : 
   -- each write stands in its entry
   pub stands : EachWrite events (λ newer older id value server. Written capacity m id value server (usedBy older server))
   -- what bears an id is readable for it, and the top one is that of its last write
-  pub opens : (id k j : ℕ) → id < range → k < count → j < capacity → bears capacity m id k j ≡ true → readable greatest id k ≡ true
-  pub tops : (id : ℕ) → id < range → TopAt (bears capacity m id) count capacity (placeOf (standing events id))
+  pub opens : (id k j : ℕ) → id < contentRange → k < count → j < capacity → bears capacity m id k j ≡ true → readable greatest id k ≡ true
+  pub tops : (id : ℕ) → id < contentRange → TopAt (bears capacity m id) count capacity (placeOf (standing events id))
 
 module _ {capacity count : ℕ} {greatest : ℕ → Fraction} {events : List Event} {m : List ℕ} (H : Holds capacity count greatest events m) where
   free-id : (k j : ℕ) → k < count → usedBy events k ≤ j → j < capacity → nth m (entryAt capacity k j) ≡ blank
   free-id k j l u i = rw add-zero at (H .free k j 0 l u i (omega arith))
 
   -- an entry that bears an id is used
-  pub bears-used : (id k j : ℕ) → id < range → k < count → j < capacity → bears capacity m id k j ≡ true → j < usedBy events k
+  pub bears-used : (id k j : ℕ) → id < contentRange → k < count → j < capacity → bears capacity m id k j ≡ true → j < usedBy events k
   bears-used id k j n l i b = byBool (ltb j (usedBy events k))
       (λ d. ltb-true j (usedBy events k) d)
       (λ d. absurd (omega (arith, bears-id capacity m id k j b, free-id k j l (ltb-false j (usedBy events k) d) i)))

@@ -7,6 +7,7 @@ use mathlib.Core.List.{List, [], _∷_}
 use native.Mathlib.Omega.{arith}
 use lib.Dec.{leb, ltb, eqb}
 use borrow.Author.Tests.{lt-ltb, le-ltb, leb-true, leb-false}
+use Rattle.limits.specs.Limits.{contentRange}
 use Rattle.lists.proofs.Tests.{byBool}
 use Rattle.placement.specs.declared.Fraction.{Fraction}
 use Rattle.medium.specs.Word.{deleted as deletedMark}
@@ -21,7 +22,7 @@ use Rattle.writing.specs.Writing.{target, writeRows, writeBurns, writeMedium}
 use Rattle.servers.specs.Servers.{startRows}
 use Rattle.history.specs.Call.{Call, addServer, reweight, write, delete, lookup, batch}
 use Rattle.history.specs.Machine.{State, next, after, begin}
-use Rattle.history.specs.Ledger.{Event, wrote, deleted, Ledger, Entered, enterBy, opening, usedBy, range, addServerRowsL, withServerL, reweightRowsL, withWeightL, withEvent, writeRowsL, deleteRowsL, lookupRowsL, enter, ledgerAfter}
+use Rattle.history.specs.Ledger.{Event, wrote, deleted, Ledger, Entered, enterBy, opening, usedBy, addServerRowsL, withServerL, reweightRowsL, withWeightL, withEvent, writeRowsL, deleteRowsL, lookupRowsL, enter, ledgerAfter}
 use Rattle.history.specs.Demand3.{stateThen, ledgerThen}
 use Rattle.history.specs.LiveRule.{stays, LiveRule}
 use Rattle.history.proofs.Events.{EachWrite, each-none, each-wrote, each-deleted, used-write}
@@ -54,7 +55,7 @@ module _ {capacity count : ℕ} {greatest : ℕ → Fraction} {events : List Eve
       old-borne H W a k (usedBy older k) (write-there H newer older a v k e) (used-write events newer older a v k e)
       ∙ rw (R newer older a v k e, not-taken id a server k) (and-comm (stays a k newer) (not (eqb id a) || ltb k server)))
 
-  delete-ruled : (id : ℕ) → id < range → Ruled capacity (deleted id ∷ events) (afterDelete capacity count greatest events m id)
+  delete-ruled : (id : ℕ) → id < contentRange → Ruled capacity (deleted id ∷ events) (afterDelete capacity count greatest events m id)
   unfolding stays
   delete-ruled id small = each-deleted _ (λ newer older a v k e.
       borne H id small a k (usedBy older k) (write-there H newer older a v k e) (omega (arith, H .fits k, used-write events newer older a v k e))

@@ -9,6 +9,7 @@ use native.Mathlib.Omega.{arith}
 use lib.ListN.{length}
 use lib.Dec.{leb}
 use borrow.Author.Tests.{lt-leb, le-ltb, ne-eqb}
+use Rattle.limits.specs.Limits.{contentRange}
 use Rattle.lists.specs.Below.{countBelow}
 use Rattle.lists.proofs.Below.{countBelow-cong}
 use Rattle.placement.specs.Rule.{readable}
@@ -26,7 +27,7 @@ use Rattle.lookup.specs.Opened.{lowest, opens}
 use Rattle.lookup.proofs.Searches.{opened-are}
 use Rattle.lookup.proofs.Passed.{in-range}
 use Rattle.history.specs.Call.{lookup, compared}
-use Rattle.history.specs.Ledger.{Ledger, Standing, standing, range, lookupRowsL, openedFrom, standingReply, enter}
+use Rattle.history.specs.Ledger.{Ledger, Standing, standing, lookupRowsL, openedFrom, standingReply, enter}
 use Rattle.history.proofs.Events.{placeOf, stands-came}
 use Rattle.history.proofs.Holds.{Written}
 use Rattle.history.proofs.Agree.{Agree, Step, settled, same-ready, same-reads, same-met}
@@ -34,7 +35,7 @@ use Rattle.history.proofs.Agree.{Agree, Step, settled, same-ready, same
 module _ {t : Table} {m : List ℕ} {L : Ledger} (A : Agree t m L) (id : ℕ) where
   pub same-rows : firstOf (lookupRows t m id) ≡ firstOf (lookupRowsL L id)
   unfolding lookupRows lookupRowsL
-  same-rows = same-ready A (leb range id)
+  same-rows = same-ready A (leb contentRange id)
 
   -- the servers opened
   same-opened : (from : ℕ) → countBelow (λ k. leb from k && reads t id k) (t .count) ≡ openedFrom L id from
@@ -54,7 +55,7 @@ module _ {t : Table} {m : List ℕ} {L : Ledger} (A : Agree t m L) (id : ℕ) wh
       let c = stands-came (L .events) id x e in
       rw (c .entryIs) (A .holds .stands (c .last .newer) (c .last .older) id (x .value) (x .server) (c .last .split))
 
-  same-reply : id < range → compared (metReply (t .capacity) m (length (searchFor t m id .opened)) (searchFor t m id .met)) ≡ standingReply L id (standing (L .events) id)
+  same-reply : id < contentRange → compared (metReply (t .capacity) m (length (searchFor t m id .opened)) (searchFor t m id .met)) ≡ standingReply L id (standing (L .events) id)
   unfolding compared metReply standingReply placeOf lowest
   same-reply n =
       ap₂ (λ (o : ℕ) (p : Option Place). compared (metReply (t .capacity) m o p)) (opened-number ∙ ap (λ (p : Option Place). openedFrom L id (lowest p)) (same-met A id n)) (same-met A id n)
@@ -75,11 +76,11 @@ module _ {t : Table} {m : List ℕ} {L : Ledger} (A : Agree t m L) (id : ℕ) wh
       (λ f. A)
 
   -- a lookup of an id in range, once a server is there
-  not-refused : id < range → 0 < t .count → firstOf (lookupRows t m id) ≡ 0
+  not-refused : id < contentRange → 0 < t .count → firstOf (lookupRows t m id) ≡ 0
   unfolding firstOf lookupRows readyRows short
-  not-refused n l = rw (A .isSound, lt-leb range id n, ne-eqb (t .count) 0 (λ e. omega arith), le-ltb (length m) (serverAt (t .capacity) (t .count)) (A .holds .long))
+  not-refused n l = rw (A .isSound, lt-leb contentRange id n, ne-eqb (t .count) 0 (λ e. omega arith), le-ltb (length m) (serverAt (t .capacity) (t .count)) (A .holds .long))
 
-  pub looked : id < range → 0 < t .count → compared (lookupReply t m id) ≡ standingReply L id (standing (L .events) id)
+  pub looked : id < contentRange → 0 < t .count → compared (lookupReply t m id) ≡ standingReply L id (standing (L .events) id)
   unfolding lookupReply replyBy
   looked n l =
       let s = searchFor t m id in

@@ -8,6 +8,7 @@ use mathlib.Core.List.{List}
 use native.Mathlib.Omega.{arith}
 use native.Mathlib.Nat.{add-zero}
 use lib.ListN.{length}
+use Rattle.limits.specs.Limits.{contentRange}
 use Rattle.lists.specs.Below.{nth}
 use Rattle.placement.specs.declared.Fraction.{Fraction}
 use Rattle.medium.specs.Entry.{serverAt, entryAt, markAt, bears, live}
@@ -16,7 +17,7 @@ use Rattle.medium.proofs.Places.{entry-in, entry-apart}
 use Rattle.medium.proofs.Entries.{bears-i, bears-id, bears-mark, live-i, live-used, live-bears}
 use Rattle.medium.proofs.Burns.{length-burnAll, invalidations-off, invalidations-on}
 use Rattle.medium.proofs.Marks.{MarkOf, marks-out, marks-in}
-use Rattle.history.specs.Ledger.{Event, usedBy, range}
+use Rattle.history.specs.Ledger.{Event, usedBy}
 use Rattle.history.proofs.Holds.{Holds, bears-used, Once, once-blank}
 
 -- N is M with the marks of those entries that bear an id in m, on the servers that pass. M itself is m, or m with words in
@@ -35,7 +36,7 @@ pub record Invalidated (capacity count : ℕ) (events : List Event) (m : List �
   pub gone : (k j : ℕ) → k < count → j < capacity → p k ≡ true → bears capacity m id k j ≡ true → bears capacity N id k j ≡ true → ⊥
 
 module _ {capacity count : ℕ} {greatest : ℕ → Fraction} {events : List Event} {m : List ℕ} (H : Holds capacity count greatest events m)
-    (id : ℕ) (small : id < range) (p : ℕ → Bool)
+    (id : ℕ) (small : id < contentRange) (p : ℕ → Bool)
     (M : List ℕ) (long : length M ≡ length m)
     (old : (k j q : ℕ) → k < count → j < usedBy events k → q < 3 → nth M (entryAt capacity k j + q) ≡ nth m (entryAt capacity k j + q))
     (content : ℕ) (mark : content ≤ 2) where

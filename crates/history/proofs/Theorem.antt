@@ -6,6 +6,7 @@ use mathlib.Core.Logic.{_↔_}
 use mathlib.Core.List.{List, _∷_, _++_, Memᴰ·map}
 use mathlib.Core.Option.{Option, none, some}
 use native.Mathlib.Omega.{arith}
+use Rattle.limits.specs.Limits.{contentRange}
 use Rattle.lists.specs.Below.{nth}
 use Rattle.replies.specs.Refusal.{firstOf}
 use Rattle.replies.specs.declared.Reply.{Reply}
@@ -13,7 +14,7 @@ use Rattle.lookup.specs.Lookup.{lookupReply}
 use Rattle.servers.specs.Servers.{startRows}
 use Rattle.history.specs.Call.{Call, Compared, compared}
 use Rattle.history.specs.Machine.{State, begin}
-use Rattle.history.specs.Ledger.{Event, wrote, Ledger, Standing, opening, usedBy, standing, range, standingReply}
+use Rattle.history.specs.Ledger.{Event, wrote, Ledger, Standing, opening, usedBy, standing, standingReply}
 use Rattle.history.specs.Demand3.{Stands, Demand3, stateThen, ledgerThen}
 use Rattle.history.proofs.Events.{standingAfter, used-write, own-entry, last-stands, stands-came}
 use Rattle.history.proofs.Holds.{write-there}
@@ -50,7 +51,7 @@ module _ (S : State) (L : Ledger) (A : Agrees S L) where
       let r = looked A id (stands-written A id x e .idSmall) (omega (arith, A .count, s .there)) ∙ ap (standingReply L id) e in
       (ap (λ (c : Compared). c .refusal) r, ap (λ (c : Compared). c .value) r)
 
-  absent : (id : ℕ) → id < range → 0 < L .servers → (reply id .refusal ≡ 8) ↔ (standing (L .events) id ≡ none)
+  absent : (id : ℕ) → id < contentRange → 0 < L .servers → (reply id .refusal ≡ 8) ↔ (standing (L .events) id ≡ none)
   unfolding compared standingReply
   absent id n l = (
     λ r. go r (standing (L .events) id) refl,

@@ -11,6 +11,7 @@ use lib.ListN.{length, set, length-set}
 use lib.Seq.{getD-set-same, getD-set-other}
 use lib.Dec.{leb, eqb}
 use borrow.Author.Tests.{leb-false, eqb-true, eqb-false, eq-eqb}
+use Rattle.limits.specs.Limits.{contentRange}
 use Rattle.lists.specs.Below.{nth}
 use Rattle.lists.proofs.Tests.{byBool, true-not-false, and-l, and-r, and-i, iff-eq, except}
 use Rattle.placement.specs.declared.Fraction.{Fraction}
@@ -20,7 +21,7 @@ use Rattle.medium.specs.Entry.{entryAt, valueAt, markAt, bears}
 use Rattle.medium.specs.Burn.{burnAll, marksOver, invalidations}
 use Rattle.medium.proofs.Places.{entry-in, entry-apart}
 use Rattle.medium.proofs.Entries.{bears-i, bears-id, bears-cong}
-use Rattle.history.specs.Ledger.{Event, wrote, usedBy, standing, range}
+use Rattle.history.specs.Ledger.{Event, wrote, usedBy, standing}
 use Rattle.history.proofs.Tops.{Upto, Top, TopAt, top-cong}
 use Rattle.history.proofs.Events.{placeOf, each-wrote, used-self, used-other, used-grows, wrote-self, wrote-other}
 use Rattle.history.proofs.Holds.{Written, Holds, bears-used, Once, once-blank, once-written}
@@ -38,8 +39,8 @@ afterWrite capacity count greatest events m id value server =
 
 -- what an accepted write has passed, and that its server is readable for the id
 pub record Accepted (capacity count : ℕ) (greatest : ℕ → Fraction) (events : List Event) (id value server : ℕ) : Type 0 where
-  pub small : id < range
-  pub smallValue : value < range
+  pub small : id < contentRange
+  pub smallValue : value < contentRange
   pub there : server < count
   pub room : usedBy events server < capacity
   pub reads : readable greatest id server ≡ true
@@ -106,7 +107,7 @@ module _ {capacity count : ℕ} {greatest : ℕ → Fraction} {events : List Eve
   once a f = done .once a (λ e. f (once-blank m M off-once a e)) ∙ off-once a f
 
   -- the new entry bore nothing, and bears the id
-  not-borne : (a k j : ℕ) → a < range → k ≡ server → j ≡ entry → bears capacity m a k j ≡ true → ⊥
+  not-borne : (a k j : ℕ) → a < contentRange → k ≡ server → j ≡ entry → bears capacity m a k j ≡ true → ⊥
   not-borne a k j n x y b = omega (arith, ap (usedBy events) x, bears-used H a k j n (omega arith) (omega arith) b)
 
   pub new-borne : bears capacity N id server entry ≡ true
@@ -142,14 +143,14 @@ module _ {capacity count : ℕ} {greatest : ℕ → Fraction} {events : List Eve
       fresh x y (sym (bears-id capacity M a k j (done .less a k j i b)) ∙ ap₂ (λ (k j : ℕ). nth M (entryAt capacity k j)) x y ∙ id-there))
       (λ d. before (sym (off-bears a k j i (λ x y. true-not-false (and-i (eqb k server) (eqb j entry) (eq-eqb k server x) (eq-eqb j entry y)) d)) ∙ done .less a k j i b))
 
-  opens : (a k j : ℕ) → a < range → k < count → j < capacity → bears capacity N a k j ≡ true → readable greatest a k ≡ true
+  opens : (a k j : ℕ) → a < contentRange → k < count → j < capacity → bears capacity N a k j ≡ true → readable greatest a k ≡ true
   opens a k j n l i b = go (from a k j i b)
     where
       go : From a k j → readable greatest a k ≡ true
       go (fresh x y z) = rw (x, z) (W .reads)
       go (before o) = H .opens a k j n l i o
 
-  others-stand : (a : ℕ) → a < range → a ≢ id → TopAt (bears capacity N a) count capacity (placeOf (standing events a))
+  others-stand : (a : ℕ) → a < contentRange → a ≢ id → TopAt (bears capacity N a) count capacity (placeOf (standing events a))
   others-stand a n f = top-cong (bears capacity m a) (bears capacity N a) count capacity
       (λ k j l i. iff-eq _ _ (λ b. go k j (from a k j i b)) (λ b. done .others a k j l i f (off-bears a k j i (λ x y. not-borne a k j n x y b) ∙ b)))
       (placeOf (standing events a)) (H .tops a n)

@@ -6,6 +6,7 @@ use mathlib.Core.Logic.{_↔_, _≢_}
 use mathlib.Core.List.{List, [], _∷_, _++_, List·Memᴰ, map}
 use lib.ListN.{length}
 use lib.Dec.{eqb}
+use Rattle.limits.specs.Limits.{contentRange}
 use Rattle.lists.specs.Below.{nth}
 use Rattle.medium.specs.Word.{idWord, valueWord, blank}
 use Rattle.medium.specs.Entry.{entryAt, valueAt}
@@ -14,7 +15,7 @@ use Rattle.lookup.specs.Lookup.{lookupReply}
 use Rattle.batch.specs.Batch.{batchReply}
 use Rattle.history.specs.Call.{Call, batch, compared}
 use Rattle.history.specs.Machine.{State, after, replies, begin, liveEntries}
-use Rattle.history.specs.Ledger.{Event, wrote, deleted, Ledger, opening, usedBy, writes, range, batchL, ledgerAfter, ledgerReplies}
+use Rattle.history.specs.Ledger.{Event, wrote, deleted, Ledger, opening, usedBy, writes, batchL, ledgerAfter, ledgerReplies}
 
 -- no event of an id among these
 unfoldable pub untouched : ℕ → List Event → Bool
@@ -70,7 +71,7 @@ module _ (capacity n : ℕ) (calls : List Call) where
     pub finds : (id value server : ℕ) → LastWrite (L .events) id value server
         → (found id .refusal ≡ 0) × (found id .value ≡ value)
     -- and answers 'absent' exactly when there is no such write, once a server is there and for ids in range
-    pub absent : (id : ℕ) → id < range → 0 < L .servers
+    pub absent : (id : ℕ) → id < contentRange → 0 < L .servers
         → (found id .refusal ≡ 8) ↔ ((value server : ℕ) → LastWrite (L .events) id value server → ⊥)
     -- every word that is not blank after some first part of the list stands unaltered after all of it
     pub unaltered : (before later : List Call) → before ++ later ≡ calls → (a : ℕ)

@@ -7,6 +7,7 @@ use mathlib.Core.List.{List, [], _∷_, _++_}
 use mathlib.Core.Option.{Option, none, some}
 use lib.ListN.{length}
 use lib.Dec.{leb, ltb, eqb}
+use Rattle.limits.specs.Limits.{maxServers, contentRange}
 use Rattle.lists.specs.Below.{nth, countBelow}
 use Rattle.placement.specs.declared.Fraction.{Fraction}
 use Rattle.placement.specs.Fraction.{raise}
@@ -41,6 +42,13 @@ opening capacity words = record {
   greatest = λ k. record { num = 0; den = 1 };
   events = [];
 }
+
+-- the entries of each server, and the words that n servers have
+abbrev pub entriesL : Ledger → ℕ
+entriesL L = L .capacity
+
+abbrev pub wordsFor : Ledger → ℕ → ℕ
+wordsFor L n = 3 * L .capacity * n
 
 -- a server's used: the number of writes to it
 unfoldable pub usedBy : List Event → ℕ → ℕ
@@ -91,9 +99,9 @@ put f k x i = cond (eqb i k) x (f i)
 
 unfoldable pub addServerRowsL : Ledger → ℕ → List Row
 addServerRowsL L weight =
-    2 when ltb (L .capacity) weight
-    ∷ 4 when eqb (L .servers) 256
-    ∷ 5 when ltb (L .words) (3 * L .capacity * suc (L .servers))
+    2 when ltb (entriesL L) weight
+    ∷ 4 when eqb (L .servers) maxServers
+    ∷ 5 when ltb (L .words) (wordsFor L (suc (L .servers)))
     ∷ []
 
 unfoldable pub withServerL : Ledger → ℕ → Ledger
@@ -112,9 +120,9 @@ withServerL L weight =
 
 unfoldable pub reweightRowsL : Ledger → ℕ → ℕ → List Row
 reweightRowsL L server weight =
-    2 when ltb (L .capacity) weight
+    2 when ltb (entriesL L) weight
     ∷ 3 when leb (L .servers) server
-    ∷ 9 when ltb (L .capacity - usedBy (L .events) server) weight
+    ∷ 9 when ltb (entriesL L - usedBy (L .events) server) weight
     ∷ []
 
 unfoldable pub withWeightL : Ledger → ℕ → ℕ → Ledger
@@ -129,12 +137,8 @@ withWeightL L server weight =
       events = L .events;
     }
 
--- ids and values are below 2^30
-abbrev pub range : ℕ
-range = 1073741824
-
 unfoldable pub shortL : Ledger → Bool
-shortL L = ltb (L .words) (3 * L .capacity * L .servers)
+shortL L = ltb (L .words) (wordsFor L (L .servers))
 
 -- the rows that write, delete and lookup share; `outside` says whether an argument of the call is out of range
 unfoldable pub readyRowsL : Ledger → Bool → List Row
@@ -161,21 +165,21 @@ targetL L id = writeServer (L .weight) (L .servers) id
 
 unfoldable pub writeRowsL : Ledger → ℕ → ℕ → List Row
 writeRowsL L id value =
-    readyRowsL L (leb range id || leb range value)
-    ++ (6 when eqb (usedBy (L .events) (targetL L id)) (L .capacity) ∷ [])
+    readyRowsL L (leb contentRange id || leb contentRange value)
+    ++ (6 when eqb (usedBy (L .events) (targetL L id)) (entriesL L) ∷ [])
 
 -- delete
 
 unfoldable pub deleteRowsL : Ledger → ℕ → List Row
 deleteRowsL L id =
-    readyRowsL L (leb range id)
+    readyRowsL L (leb contentRange id)
     ++ (8 when not (isStanding (standing (L .events) id)) ∷ [])
 
 -- lookup: the value of the id's last write, or 8; the servers from that write's upward whose greatest WriteP exceeds their
 -- draw, or all such servers
 
 unfoldable pub lookupRowsL : Ledger → ℕ → List Row
-lookupRowsL L id = readyRowsL L (leb range id)
+lookupRowsL L id = readyRowsL L (leb contentRange id)
 
 unfoldable pub openedFrom : Ledger → ℕ → ℕ → ℕ
 openedFrom L id from = countBelow (λ k. leb from k && readable (L .greatest) id k) (L .servers)

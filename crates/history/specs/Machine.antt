@@ -4,8 +4,9 @@ use mathlib.Core.List.{List, [], _∷_}
 use mathlib.Core.Bool.{Bool, _&&_}
 use lib.ListN.{replicate}
 use lib.Dec.{ltb}
+use Rattle.limits.specs.Limits.{contentRange}
 use Rattle.lists.specs.Below.{nth, countBelow, total}
-use Rattle.medium.specs.Word.{contentRange, blank}
+use Rattle.medium.specs.Word.{blank}
 use Rattle.medium.specs.Entry.{entryAt, live}
 use Rattle.table.specs.declared.Table.{Table}
 use Rattle.table.specs.Parts.{usedOf}

@@ -2,12 +2,14 @@
 ghost use mathlib.Core.Path.{_≡_};
 ghost use Prim.Native.Nat.{_<_};
 ghost use lib.ListN.{length};
+ghost use Rattle.limits.specs.Limits.{contentRange};
 ghost use Rattle.lists.specs.Below.{nth};
 ghost use Rattle.medium.specs.Entry.{AllInside};
 ghost use Rattle.medium.specs.Burn.{burnAll, invalidations};
 ghost use Rattle.table.specs.Parts.{tableOf, column};
 ghost use Rattle.invalidation.specs.Marks.{marksFrom};
 use placement::Fraction;
+use table::Columns;
 use table::Shape;
 
 // Burns a mark of this content on each live entry of an id on the readable servers from the highest down to `from`, and
@@ -15,13 +17,13 @@ use table::Shape;
 pub fn invalidate<'a>(
     medium: &mut [u32],
     shape: Shape,
-    columns: [&'a [u32; 256]; 4],
+    columns: Columns<'a>,
     id: u32,
     from: usize,
     content: u32,
 ) -> usize
     requires { ⌜ AllInside (shape .capacity) (shape .count) (nth (column columns 1)) (now medium) ⌝ }
-    requires { ⌜ content < 1073741824 ⌝ }
+    requires { ⌜ content < contentRange ⌝ }
     ensures count { λ r. ⌜ r ≡ length (marksFrom (tableOf shape (columns .entry)) (now (medium .entry)) id from) ⌝ }
     ensures words { λ _. ⌜ now (medium .exit) ≡ burnAll (now (medium .entry)) (invalidations content (marksFrom (tableOf shape (columns .entry)) (now (medium .entry)) id from)) ⌝ }
 {

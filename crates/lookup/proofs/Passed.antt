@@ -5,7 +5,7 @@ use mathlib.Core.Path.{_≡_}
 use mathlib.Core.List.{List}
 use lib.Dec.{leb}
 use borrow.Author.Tests.{leb-false}
-use Rattle.medium.specs.Word.{contentRange}
+use Rattle.limits.specs.Limits.{contentRange}
 use Rattle.table.specs.declared.Table.{Table}
 use Rattle.replies.specs.Refusal.{firstOf}
 use Rattle.checks.proofs.Passed.{Ready, ready-tests, ready-accepted}

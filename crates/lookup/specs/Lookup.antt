@@ -6,8 +6,9 @@ use mathlib.Core.List.{List}
 use mathlib.Core.Option.{Option, none, some}
 use lib.ListN.{length}
 use lib.Dec.{leb, eqb}
+use Rattle.limits.specs.Limits.{contentRange}
 use Rattle.lists.specs.Below.{nth}
-use Rattle.medium.specs.Word.{contentRange, tagOf, contentOf}
+use Rattle.medium.specs.Word.{tagOf, contentOf}
 use Rattle.medium.specs.Entry.{valueAt}
 use Rattle.table.specs.declared.Table.{Table}
 use Rattle.replies.specs.Refusal.{Row}

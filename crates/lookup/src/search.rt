@@ -9,15 +9,17 @@ ghost use Rattle.replies.specs.Reply.{replyOfLookup};
 ghost use Rattle.lookup.specs.Search.{searchFor, foundBy};
 ghost use Rattle.lookup.specs.Lookup.{metReply, lookupReply};
 use crate::Found;
+use limits::CONTENT_RANGE;
 use placement::Fraction;
 use replies::Check;
 use replies::LookupAnswer;
 use replies::Refusal;
+use table::Columns;
 use table::Shape;
 use table::Table;
 
 // The entry that a lookup meets, and how many servers it opens.
-pub fn find<'a>(shape: Shape, columns: [&'a [u32; 256]; 4], medium: &[u32], id: u32) -> Found
+pub fn find<'a>(shape: Shape, columns: Columns<'a>, medium: &[u32], id: u32) -> Found
     requires { ⌜ AllInside (shape .capacity) (shape .count) (nth (column columns 1)) (now medium) ⌝ }
     ensures { λ r. ⌜ r ≡ foundBy (searchFor (tableOf shape (columns .entry)) (now (medium .entry)) id) ⌝ }
 {
@@ -68,25 +70,20 @@ pub fn met(
     requires { ⌜ entry < capacity ⌝ }
     ensures { λ r. ⌜ replyOfLookup r ≡ metReply capacity (now (medium .entry)) opened (some (record { server = server; entry = entry })) ⌝ }
 {
-    let word = medium[medium::entry_at(capacity as usize, server, entry) + 1];
-    if word / medium::CONTENT_RANGE == 1 {
-        LookupAnswer::Found(word % medium::CONTENT_RANGE, opened)
+    let word = medium[medium::entry_at(capacity as usize, server, entry) + medium::VALUE_PLACE];
+    if word / CONTENT_RANGE == 1 {
+        LookupAnswer::Found(word % CONTENT_RANGE, opened)
     } else {
         LookupAnswer::Refused(Refusal::Corrupt, opened)
     }
 }
 
 // Lookup on a table whose arrays are borrowed: the value of an id, or why there is none, and how many servers were opened.
-pub fn lookup_in<'a>(
-    shape: Shape,
-    columns: [&'a [u32; 256]; 4],
-    medium: &[u32],
-    id: u32,
-) -> LookupAnswer
+pub fn lookup_in<'a>(shape: Shape, columns: Columns<'a>, medium: &[u32], id: u32) -> LookupAnswer
     ensures { λ r. ⌜ replyOfLookup r ≡ lookupReply (tableOf shape (columns .entry)) (now (medium .entry)) id ⌝ }
 {
     let capacity = shape.capacity;
-    let check = checks::ready(shape, columns, medium, medium::CONTENT_RANGE <= id);
+    let check = checks::ready(shape, columns, medium, CONTENT_RANGE <= id);
     if let Check::Refused(refusal) = check {
         return LookupAnswer::Refused(refusal, 0);
     }

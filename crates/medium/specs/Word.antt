@@ -1,10 +1,7 @@
 -- The words of the medium (document 01, "The discs"). The top two bits are a word's tag, which the paper calls its kind:
 -- 0 id, 1 value, 2 mark, the paper's void. The low 30 bits are its content. No word of tag 3 but blank is ever written.
-use Prim.Native.Nat.{ℕ, _+_, _/_, _%_}
-
--- 2^30: ids and values are below it
-abbrev pub contentRange : ℕ
-contentRange = 1073741824
+use Prim.Native.Nat.{ℕ, _+_, _*_, _/_, _%_}
+use Rattle.limits.specs.Limits.{contentRange}
 
 abbrev pub tagOf : ℕ → ℕ
 tagOf w = w / contentRange
@@ -16,10 +13,10 @@ abbrev pub idWord : ℕ → ℕ
 idWord id = id
 
 abbrev pub valueWord : ℕ → ℕ
-valueWord v = 1073741824 + v
+valueWord v = contentRange + v
 
 abbrev pub markWord : ℕ → ℕ
-markWord content = 2147483648 + content
+markWord content = 2 * contentRange + content
 
 -- the contents of a mark
 abbrev pub replaced : ℕ

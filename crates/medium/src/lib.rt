@@ -3,14 +3,25 @@
 ghost use mathlib.Core.Path.{_≡_};
 ghost use Prim.Native.Nat.{_<_, _≤_, _+_};
 ghost use lib.ListN.{length};
-ghost use Rattle.medium.specs.Entry.{serverAt, entryAt, bearsAt, blankRun, Inside};
+ghost use Rattle.limits.specs.Limits.{maxServers, maxCapacity, contentRange};
+ghost use Rattle.medium.specs.Entry.{markPlace, serverAt, entryAt, bearsAt, blankRun, Inside};
 ghost use Rattle.medium.specs.Burn.{burnAll, marksOn, invalidations};
+use limits::CONTENT_RANGE;
 
 // A word that nothing was written to.
 pub const BLANK: u32 = 4294967295;
 
-// 2^30: the content of a word is below it. A value's word is its value plus this, a mark's its content plus twice this.
-pub const CONTENT_RANGE: u32 = 1073741824;
+// What the tag in the top two bits adds to the content of a word: 1 for a value, 2 for a mark. An id's word is the id.
+pub const VALUE_TAG: u32 = CONTENT_RANGE;
+
+pub const MARK_TAG: u32 = 2 * CONTENT_RANGE;
+
+// An entry has three words: its id's, its value's and its mark, which stand this far from its first word.
+pub const ENTRY_WORDS: usize = 3;
+
+pub const VALUE_PLACE: usize = 1;
+
+pub const MARK_PLACE: usize = 2;
 
 // The contents of a mark.
 pub const REPLACED: u32 = 1;
@@ -19,18 +30,18 @@ pub const DELETED: u32 = 2;
 
 // The first word of a server, and of the one after the last.
 pub fn server_at(capacity: usize, server: usize) -> usize
-    requires { ⌜ (capacity ≤ 65536) × (server ≤ 256) ⌝ }
+    requires { ⌜ (capacity ≤ maxCapacity) × (server ≤ maxServers) ⌝ }
     ensures { λ r. ⌜ r ≡ serverAt capacity server ⌝ }
 {
-    3 * capacity * server
+    ENTRY_WORDS * capacity * server
 }
 
 // The first word of an entry.
 pub fn entry_at(capacity: usize, server: usize, entry: usize) -> usize
-    requires { ⌜ (capacity ≤ 65536) × (server < 256) × (entry ≤ capacity) ⌝ }
+    requires { ⌜ (capacity ≤ maxCapacity) × (server < maxServers) × (entry ≤ capacity) ⌝ }
     ensures { λ r. ⌜ r ≡ entryAt capacity server entry ⌝ }
 {
-    server_at(capacity, server) + 3 * entry
+    server_at(capacity, server) + ENTRY_WORDS * entry
 }
 
 // Whether the `n` words from `from` on are blank.
@@ -50,13 +61,13 @@ pub fn is_blank(medium: &[u32], from: usize, n: usize) -> bool
 
 // Whether the entry that begins at an address bears an id and no mark; one below the used ones is live then.
 pub fn bears(medium: &[u32], at: usize, id: u32) -> bool
-    requires { ⌜ at + 2 < length (now medium) ⌝ }
+    requires { ⌜ at + markPlace < length (now medium) ⌝ }
     ensures { λ r. ⌜ r ≡ bearsAt (now (medium .entry)) id at ⌝ }
 {
     if medium[at] != id {
         return false;
     }
-    medium[at + 2] == BLANK
+    medium[at + MARK_PLACE] == BLANK
 }
 
 // Burns a mark of this content on each live entry of an id on a server, the lowest first, and answers how many it burned.
@@ -70,7 +81,7 @@ pub fn invalidate_server(
 ) -> usize
     requires { ⌜ Inside capacity server (now medium) ⌝ }
     requires { ⌜ used ≤ capacity ⌝ }
-    requires { ⌜ content < 1073741824 ⌝ }
+    requires { ⌜ content < contentRange ⌝ }
     ensures count { λ r. ⌜ r ≡ length (marksOn capacity used (now (medium .entry)) id server) ⌝ }
     ensures words { λ _. ⌜ now (medium .exit) ≡ burnAll (now (medium .entry)) (invalidations content (marksOn capacity used (now (medium .entry)) id server)) ⌝ }
 {
@@ -79,10 +90,10 @@ pub fn invalidate_server(
     let mut at = entry_at(capacity, server, 0);
     while j < used {
         if bears(medium, at, id) {
-            medium[at + 2] = 2147483648 + content;
+            medium[at + MARK_PLACE] = MARK_TAG + content;
             n += 1;
         }
-        at += 3;
+        at += ENTRY_WORDS;
         j += 1;
     }
     n

@@ -5,6 +5,7 @@ use mathlib.Core.Bool.{Bool, true, false, cond}
 use mathlib.Core.List.{List}
 use mathlib.Core.Path.{_≡_}
 use lib.Dec.{eqb}
+use Rattle.limits.specs.Limits.{maxServers, maxCapacity}
 use Rattle.lists.specs.Below.{nth, highest, orZero, total}
 use Rattle.placement.specs.declared.Fraction.{Fraction}
 use Rattle.placement.specs.Draw.{modulus, drawOf}
@@ -45,5 +46,5 @@ pub record Picked (m : ℕ) (draw weight : ℕ → ℕ) (n k : ℕ) : Type 0 whe
 
 -- at most 256 servers, each of a weight of at most 65,536: their sum is at most 2^24
 pub record Bounded (weights : List ℕ) (n : ℕ) : Type 0 where
-  pub few : n ≤ 256
-  pub light : (k : ℕ) → k < n → nth weights k ≤ 65536
+  pub few : n ≤ maxServers
+  pub light : (k : ℕ) → k < n → nth weights k ≤ maxCapacity

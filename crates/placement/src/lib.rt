@@ -3,11 +3,15 @@
 ghost use mathlib.Core.Path.{_≡_};
 ghost use Prim.Native.Nat.{_<_};
 ghost use lib.ListN.{length};
+ghost use Rattle.limits.specs.Limits.{maxServers};
 ghost use Rattle.lists.specs.Below.{nth, total, setBelow};
 ghost use Rattle.placement.specs.Draw.{modulus, stepOf, seedOf, roundOf, drawOf};
 ghost use Rattle.placement.specs.Fraction.{exceeds, atLeast};
 ghost use Rattle.placement.specs.Rule.{shareOf, writeServer, Bounded};
 ghost use Rattle.placement.specs.Picks.{bounded, picksOf};
+use limits::Column;
+use limits::MAX_CAPACITY;
+use limits::MAX_SERVERS;
 
 // A fraction as document 01 keeps it: a pair, not reduced.
 pub struct Fraction {
@@ -17,7 +21,7 @@ pub struct Fraction {
 
 // The step of a server. There are at most 256 servers.
 pub fn step(server: usize) -> u32
-    requires { ⌜ server < 256 ⌝ }
+    requires { ⌜ server < maxServers ⌝ }
     ensures { λ r. ⌜ r ≡ stepOf server ⌝ }
 {
     ((server + 1) * 2654435769 % 4294967296) as u32
@@ -25,7 +29,7 @@ pub fn step(server: usize) -> u32
 
 // The seed of an id on a server; never 0.
 pub fn seed(id: u32, server: usize) -> u32
-    requires { ⌜ server < 256 ⌝ }
+    requires { ⌜ server < maxServers ⌝ }
     ensures { λ r. ⌜ r ≡ seedOf id server ⌝ }
 {
     let s = std::num::wrapping_add_u32(id, step(server));
@@ -43,7 +47,7 @@ pub fn round(s: u32) -> u32
 
 // The draw of an id on a server.
 pub fn draw(id: u32, server: usize) -> u32
-    requires { ⌜ server < 256 ⌝ }
+    requires { ⌜ server < maxServers ⌝ }
     ensures { λ r. ⌜ r ≡ drawOf id server ⌝ }
 {
     round(round(round(seed(id, server))))
@@ -82,14 +86,14 @@ pub fn write_p(server: usize, weight: u32, sum: u32) -> Fraction
 // Whether a server with this fraction takes an id: the fraction exceeds the server's draw. With WriteP it is the write
 // rule, with ReadP the read rule.
 pub fn takes(f: Fraction, id: u32, server: usize) -> bool
-    requires { ⌜ server < 256 ⌝ }
+    requires { ⌜ server < maxServers ⌝ }
     ensures { λ r. ⌜ r ≡ exceeds modulus f (drawOf id server) ⌝ }
 {
     exceeds(f, draw(id, server))
 }
 
 // The sum of the first `count` weights.
-pub fn sum_weights(weights: &[u32; 256], count: usize) -> u32
+pub fn sum_weights(weights: &Column, count: usize) -> u32
     requires { ⌜ Bounded (now weights) count ⌝ }
     ensures { λ r. ⌜ r ≡ total (nth (now (weights .entry))) count ⌝ }
 {
@@ -103,7 +107,7 @@ pub fn sum_weights(weights: &[u32; 256], count: usize) -> u32
 }
 
 // The write server of an id among `count` servers: from the highest down, the first whose WriteP exceeds its draw.
-pub fn write_server(weights: &[u32; 256], count: usize, id: u32) -> usize
+pub fn write_server(weights: &Column, count: usize, id: u32) -> usize
     requires { ⌜ Bounded (now weights) count ⌝ }
     ensures { λ r. ⌜ r ≡ writeServer (nth (now (weights .entry))) count id ⌝ }
 {
@@ -124,12 +128,12 @@ pub fn write_server(weights: &[u32; 256], count: usize, id: u32) -> usize
 fn are_bounded(weights: &[u32]) -> bool
     ensures { λ r. ⌜ r ≡ bounded (now (weights .entry)) ⌝ }
 {
-    if weights.len() > 256 {
+    if weights.len() > MAX_SERVERS {
         return false;
     }
     let mut i: usize = 0;
     while i < weights.len() {
-        if weights[i] > 65536 {
+        if weights[i] > MAX_CAPACITY {
             return false;
         }
         i += 1;

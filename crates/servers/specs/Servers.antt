@@ -5,9 +5,10 @@ use mathlib.Core.Bool.{not, _&&_}
 use mathlib.Core.List.{List, [], _∷_}
 use lib.ListN.{length}
 use lib.Dec.{leb, ltb, eqb}
-use Rattle.medium.specs.Entry.{serverAt, blankRun}
+use Rattle.limits.specs.Limits.{maxServers, maxCapacity}
+use Rattle.medium.specs.Entry.{serverWords, serverAt, blankRun}
 use Rattle.table.specs.declared.Table.{Table}
-use Rattle.table.specs.Parts.{usedOf, empty}
+use Rattle.table.specs.Parts.{entriesOf, usedOf, empty}
 use Rattle.table.specs.Sound.{sound}
 use Rattle.upkeep.specs.Upkeep.{withServer, withWeight}
 use Rattle.replies.specs.Refusal.{Row, _when_, settle}
@@ -17,7 +18,7 @@ use Rattle.replies.specs.Reply.{accepted, onServer, replyBy}
 -- start
 
 unfoldable pub startRows : ℕ → List Row
-startRows capacity = 2 when not (leb 1 capacity && leb capacity 65536) ∷ []
+startRows capacity = 2 when not (leb 1 capacity && leb capacity maxCapacity) ∷ []
 
 unfoldable pub startReply : ℕ → Reply
 startReply capacity = replyBy (startRows capacity) accepted
@@ -31,10 +32,10 @@ startTable capacity = settle (startRows capacity) (empty capacity) (empty 0)
 unfoldable pub addServerRows : Table → List ℕ → ℕ → List Row
 addServerRows t m weight =
     1 when not (sound t)
-    ∷ 2 when ltb (t .capacity) weight
-    ∷ 4 when eqb (t .count) 256
+    ∷ 2 when ltb (entriesOf t) weight
+    ∷ 4 when eqb (t .count) maxServers
     ∷ 5 when ltb (length m) (serverAt (t .capacity) (suc (t .count)))
-    ∷ 7 when not (blankRun m (serverAt (t .capacity) (t .count)) (3 * t .capacity))
+    ∷ 7 when not (blankRun m (serverAt (t .capacity) (t .count)) (serverWords (t .capacity)))
     ∷ []
 
 unfoldable pub addServerReply : Table → List ℕ → ℕ → Reply
@@ -48,9 +49,9 @@ addServerTable t m weight = settle (addServerRows t m weight) (withServer t weig
 unfoldable pub reweightRows : Table → ℕ → ℕ → List Row
 reweightRows t server weight =
     1 when not (sound t)
-    ∷ 2 when ltb (t .capacity) weight
+    ∷ 2 when ltb (entriesOf t) weight
     ∷ 3 when leb (t .count) server
-    ∷ 9 when ltb (t .capacity - usedOf t server) weight
+    ∷ 9 when ltb (entriesOf t - usedOf t server) weight
     ∷ []
 
 unfoldable pub reweightReply : Table → ℕ → ℕ → Reply

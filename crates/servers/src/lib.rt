@@ -1,5 +1,5 @@
 // Start, and the calls that change the servers: add_server, document 01's fit, and reweight, its weigh.
-mod checks;
+mod rows;
 
 ghost use mathlib.Core.Path.{_≡_};
 ghost use Rattle.replies.specs.Reply.{replyOfCheck, replyOfServer};
@@ -25,7 +25,7 @@ pub fn start(capacity: u32) -> Started
     ensures reply { λ r. ⌜ replyOfCheck (r .answer) ≡ startReply capacity ⌝ }
     ensures table { λ r. ⌜ r .table ≡ startTable capacity ⌝ }
 {
-    let answer = checks::start(capacity);
+    let answer = rows::start(capacity);
     match answer {
         Check::Refused(_) => {
             let zeros = table::empty(0);
@@ -49,7 +49,7 @@ pub fn add_server(table: Table, medium: &[u32], weight: u32) -> Placed
     ensures reply { λ r. ⌜ replyOfServer (r .answer) ≡ addServerReply table (now (medium .entry)) weight ⌝ }
     ensures table { λ r. ⌜ r .table ≡ addServerTable table (now (medium .entry)) weight ⌝ }
 {
-    let check = checks::add_server(
+    let check = rows::add_server(
         Shape {
             capacity: table.capacity,
             count: table.count,
@@ -84,7 +84,7 @@ pub fn reweight(table: Table, server: usize, weight: u32) -> Placed
     ensures reply { λ r. ⌜ replyOfServer (r .answer) ≡ reweightReply table server weight ⌝ }
     ensures table { λ r. ⌜ r .table ≡ reweightTable table server weight ⌝ }
 {
-    let check = checks::reweight(
+    let check = rows::reweight(
         Shape {
             capacity: table.capacity,
             count: table.count,

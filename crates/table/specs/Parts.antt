@@ -5,6 +5,7 @@ use mathlib.Core.Bool.{Bool}
 use mathlib.Core.List.{List, []}
 use lib.ListN.{getD, replicate}
 use denote.Ref.{RefT}
+use Rattle.limits.specs.Limits.{maxServers}
 use Rattle.lists.specs.Below.{nth}
 use Rattle.placement.specs.declared.Fraction.{Fraction}
 use Rattle.placement.specs.Rule.{readable}
@@ -34,10 +35,14 @@ tableOf shape columns = tableBy shape (column columns 0) (column columns 1) (col
 
 -- a column of zeros, and the table of count 0
 abbrev pub zeros : List ℕ
-zeros = replicate 256 0
+zeros = replicate maxServers 0
 
 abbrev pub empty : ℕ → Table
 empty capacity = tableBy (record { capacity = capacity; count = 0 }) zeros zeros zeros zeros
+
+-- the entries of each server
+abbrev pub entriesOf : Table → ℕ
+entriesOf t = t .capacity
 
 -- weight, entries used and ReadP of server k
 abbrev pub weightOf : Table → ℕ → ℕ

@@ -2,30 +2,31 @@
 use Prim.Native.Nat.{ℕ}
 use mathlib.Core.Bool.{Bool, _&&_}
 use lib.Dec.{leb}
+use Rattle.limits.specs.Limits.{maxServers, maxCapacity, maxSum}
 use Rattle.lists.specs.Below.{allBelow}
 use Rattle.placement.specs.declared.Fraction.{Fraction}
 use Rattle.placement.specs.Fraction.{atLeast}
 use Rattle.placement.specs.Rule.{writeP}
 use Rattle.table.specs.declared.Table.{Table}
-use Rattle.table.specs.Parts.{weightOf, usedOf, readP}
+use Rattle.table.specs.Parts.{entriesOf, weightOf, usedOf, readP}
 
 -- ReadP in range, and at least WriteP
 unfoldable pub readSound : Fraction → Fraction → Bool
 readSound read write =
     leb 1 (read .den)
-    && (leb (read .den) 16777216
+    && (leb (read .den) maxSum
     && (leb (read .num) (read .den)
     && atLeast read write))
 
 unfoldable pub serverSound : Table → ℕ → Bool
 serverSound t k =
-    leb (weightOf t k) (t .capacity)
-    && (leb (usedOf t k) (t .capacity)
+    leb (weightOf t k) (entriesOf t)
+    && (leb (usedOf t k) (entriesOf t)
     && readSound (readP t k) (writeP (weightOf t) k))
 
 unfoldable pub sound : Table → Bool
 sound t =
     leb 1 (t .capacity)
-    && (leb (t .capacity) 65536
-    && (leb (t .count) 256
+    && (leb (t .capacity) maxCapacity
+    && (leb (t .count) maxServers
     && allBelow (serverSound t) (t .count)))

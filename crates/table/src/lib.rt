@@ -2,6 +2,10 @@
 ghost use mathlib.Core.Path.{_≡_};
 ghost use Rattle.table.specs.Parts.{tableOf, empty};
 ghost use Rattle.table.specs.Sound.{readSound, sound};
+use limits::Column;
+use limits::MAX_CAPACITY;
+use limits::MAX_SERVERS;
+use limits::MAX_SUM;
 use placement::Fraction;
 
 // Document 01's table: capacity is its E, the entries of a server; count its count of fitted shelves; the four arrays
@@ -9,11 +13,14 @@ use placement::Fraction;
 pub struct Table {
     pub capacity: u32,
     pub count: usize,
-    pub weights: [u32; 256],
-    pub used: [u32; 256],
-    pub numerators: [u32; 256],
-    pub denominators: [u32; 256],
+    pub weights: Column,
+    pub used: Column,
+    pub numerators: Column,
+    pub denominators: Column,
 }
+
+// The columns of a table, lent together, in the order of its fields.
+pub type Columns<'a> = [&'a Column; 4];
 
 // The numbers of a table that are not one for each server.
 pub struct Shape {
@@ -28,10 +35,10 @@ pub fn empty(capacity: u32) -> Table
     Table {
         capacity,
         count: 0,
-        weights: [0; 256],
-        used: [0; 256],
-        numerators: [0; 256],
-        denominators: [0; 256],
+        weights: [0; MAX_SERVERS],
+        used: [0; MAX_SERVERS],
+        numerators: [0; MAX_SERVERS],
+        denominators: [0; MAX_SERVERS],
     }
 }
 
@@ -42,7 +49,7 @@ pub fn read_sound(read: Fraction, write: Fraction) -> bool
     if read.den < 1 {
         return false;
     }
-    if read.den > 16777216 {
+    if read.den > MAX_SUM {
         return false;
     }
     if read.num > read.den {
@@ -52,7 +59,7 @@ pub fn read_sound(read: Fraction, write: Fraction) -> bool
 }
 
 // Whether a table of any bits is sound. It borrows the arrays, so that a caller copies none.
-pub fn is_sound<'a>(shape: Shape, columns: [&'a [u32; 256]; 4]) -> bool
+pub fn is_sound<'a>(shape: Shape, columns: Columns<'a>) -> bool
     ensures { λ r. ⌜ r ≡ sound (tableOf shape (columns .entry)) ⌝ }
 {
     let capacity = shape.capacity;
@@ -64,10 +71,10 @@ pub fn is_sound<'a>(shape: Shape, columns: [&'a [u32; 256]; 4]) -> bool
     if capacity < 1 {
         return false;
     }
-    if capacity > 65536 {
+    if capacity > MAX_CAPACITY {
         return false;
     }
-    if count > 256 {
+    if count > MAX_SERVERS {
         return false;
     }
     let mut sum: u32 = 0;

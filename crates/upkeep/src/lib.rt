@@ -2,16 +2,18 @@
 ghost use mathlib.Core.Path.{_≡_};
 ghost use mathlib.Core.Bool.{true};
 ghost use Prim.Native.Nat.{_<_, _≤_};
+ghost use Rattle.limits.specs.Limits.{maxServers, maxCapacity};
 ghost use Rattle.lists.specs.Below.{nth};
 ghost use Rattle.table.specs.Sound.{sound};
 ghost use Rattle.upkeep.specs.Upkeep.{withServer, withWeight, oneMore, withEntry};
+use limits::Column;
 use placement::Fraction;
 use table::Table;
 
 // A sound table with one server more.
 pub fn with_server(table: Table, weight: u32) -> Table
     requires { ⌜ sound table ≡ true ⌝ }
-    requires { ⌜ table .count < 256 ⌝ }
+    requires { ⌜ table .count < maxServers ⌝ }
     requires { ⌜ weight ≤ table .capacity ⌝ }
     ensures { λ r. ⌜ r ≡ withServer table weight ⌝ }
 {
@@ -57,9 +59,9 @@ pub fn with_weight(table: Table, server: usize, weight: u32) -> Table
 }
 
 // Counts one entry more as used on a server, in the column of the entries used.
-pub fn count_entry(used: &mut [u32; 256], server: usize)
-    requires { ⌜ server < 256 ⌝ }
-    requires { ⌜ nth (now used) server ≤ 65536 ⌝ }
+pub fn count_entry(used: &mut Column, server: usize)
+    requires { ⌜ server < maxServers ⌝ }
+    requires { ⌜ nth (now used) server ≤ maxCapacity ⌝ }
     ensures { λ _. ⌜ now (used .exit) ≡ oneMore (now (used .entry)) server ⌝ }
 {
     used[server] += 1;

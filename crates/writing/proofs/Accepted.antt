@@ -8,8 +8,8 @@ use mathlib.Core.List.{List}
 use native.Mathlib.Omega.{arith}
 use lib.Dec.{leb, eqb}
 use borrow.Author.Tests.{leb-false, eqb-false, not-false}
+use Rattle.limits.specs.Limits.{contentRange}
 use Rattle.lists.proofs.Tests.{or-false}
-use Rattle.medium.specs.Word.{contentRange}
 use Rattle.medium.specs.Entry.{entryAt, blankRun, AllInside}
 use Rattle.table.specs.declared.Table.{Table}
 use Rattle.table.specs.Parts.{usedOf}

@@ -5,12 +5,13 @@ use mathlib.Core.Bool.{not, _||_}
 use mathlib.Core.List.{List, [], _∷_, _++_}
 use lib.ListN.{length}
 use lib.Dec.{leb, eqb}
+use Rattle.limits.specs.Limits.{contentRange}
 use Rattle.placement.specs.Rule.{writeServer}
-use Rattle.medium.specs.Word.{contentRange, idWord, valueWord, replaced}
-use Rattle.medium.specs.Entry.{entryAt, valueAt, blankRun}
+use Rattle.medium.specs.Word.{idWord, valueWord, replaced}
+use Rattle.medium.specs.Entry.{entryWords, entryAt, valueAt, blankRun}
 use Rattle.medium.specs.Burn.{Burn, burnAll, invalidations}
 use Rattle.table.specs.declared.Table.{Table}
-use Rattle.table.specs.Parts.{weightOf, usedOf}
+use Rattle.table.specs.Parts.{entriesOf, weightOf, usedOf}
 use Rattle.upkeep.specs.Upkeep.{withEntry}
 use Rattle.replies.specs.Refusal.{Row, _when_, settle}
 use Rattle.replies.specs.declared.Reply.{Reply}
@@ -26,8 +27,8 @@ target t id = writeServer (weightOf t) (t .count) id
 unfoldable pub entryRows : Table → List ℕ → ℕ → List Row
 entryRows t m id =
     let k = target t id in
-    6 when eqb (usedOf t k) (t .capacity)
-    ∷ 7 when not (blankRun m (entryAt (t .capacity) k (usedOf t k)) 3)
+    6 when eqb (usedOf t k) (entriesOf t)
+    ∷ 7 when not (blankRun m (entryAt (t .capacity) k (usedOf t k)) entryWords)
     ∷ []
 
 unfoldable pub writeRows : Table → List ℕ → ℕ → ℕ → List Row

@@ -4,12 +4,15 @@ mod planning;
 ghost use mathlib.Core.Path.{_≡_};
 ghost use Prim.Native.Nat.{_<_, _+_};
 ghost use lib.ListN.{length, set};
-ghost use Rattle.medium.specs.Word.{contentRange, idWord, valueWord};
+ghost use Rattle.limits.specs.Limits.{contentRange};
+ghost use Rattle.medium.specs.Word.{idWord, valueWord};
+ghost use Rattle.medium.specs.Entry.{valuePlace};
 ghost use Rattle.table.specs.Parts.{tableOf};
 ghost use Rattle.replies.specs.Reply.{replyOfWrite};
 ghost use Rattle.writing.specs.Writing.{writeReply, writeTable, writeMedium};
 use replies::Refusal;
 use replies::WriteAnswer;
+use table::Columns;
 use table::Shape;
 use table::Table;
 
@@ -26,11 +29,11 @@ pub struct Written {
 
 // Burns the value word and then the id word of the entry that begins at `at`.
 fn enter(medium: &mut [u32], at: usize, id: u32, value: u32)
-    requires { ⌜ at + 1 < length (now medium) ⌝ }
+    requires { ⌜ at + valuePlace < length (now medium) ⌝ }
     requires { ⌜ value < contentRange ⌝ }
-    ensures { λ _. ⌜ now (medium .exit) ≡ set (set (now (medium .entry)) (at + 1) (valueWord value)) at (idWord id) ⌝ }
+    ensures { λ _. ⌜ now (medium .exit) ≡ set (set (now (medium .entry)) (at + valuePlace) (valueWord value)) at (idWord id) ⌝ }
 {
-    medium[at + 1] = 1073741824 + value;
+    medium[at + medium::VALUE_PLACE] = medium::VALUE_TAG + value;
     medium[at] = id;
 }
 
@@ -39,7 +42,7 @@ fn enter(medium: &mut [u32], at: usize, id: u32, value: u32)
 // that is answered.
 pub fn write_in<'a>(
     shape: Shape,
-    columns: [&'a [u32; 256]; 4],
+    columns: Columns<'a>,
     medium: &mut [u32],
     id: u32,
     value: u32,

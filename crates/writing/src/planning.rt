@@ -5,14 +5,16 @@ ghost use Rattle.replies.specs.Refusal.{firstOf, settle};
 ghost use Rattle.writing.specs.Plan.{planNumber, planServer};
 ghost use Rattle.writing.specs.Writing.{target, writeRows};
 use crate::Plan;
+use limits::CONTENT_RANGE;
 use replies::Check;
 use replies::Refusal;
+use table::Columns;
 use table::Shape;
 
 // The tests before a write, which pick its server.
 pub fn plan_write<'a>(
     shape: Shape,
-    columns: [&'a [u32; 256]; 4],
+    columns: Columns<'a>,
     medium: &[u32],
     id: u32,
     value: u32,
@@ -24,7 +26,7 @@ pub fn plan_write<'a>(
     let count = shape.count;
     let weights = columns[0];
     let used = columns[1];
-    let outside = (medium::CONTENT_RANGE <= id) | (medium::CONTENT_RANGE <= value);
+    let outside = (CONTENT_RANGE <= id) | (CONTENT_RANGE <= value);
     let check = checks::ready(shape, columns, medium, outside);
     if let Check::Refused(refusal) = check {
         return Plan::Refused(refusal);
@@ -35,7 +37,7 @@ pub fn plan_write<'a>(
         return Plan::Refused(Refusal::ServerFull);
     }
     let at = medium::entry_at(capacity as usize, server, entry as usize);
-    if !medium::is_blank(medium, at, 3) {
+    if !medium::is_blank(medium, at, medium::ENTRY_WORDS) {
         return Plan::Refused(Refusal::NotBlank);
     }
     Plan::To(server)

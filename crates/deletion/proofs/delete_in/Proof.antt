@@ -4,7 +4,7 @@ use mathlib.Core.List.{List}
 use Prim.Native.Nat.{ℕ}
 use lib.Dec.{leb}
 use borrow.Author.Needs.{needs}
-use Rattle.medium.specs.Word.{contentRange}
+use Rattle.limits.specs.Limits.{contentRange}
 use Rattle.table.specs.declared.Table.{Table}
 use Rattle.table.specs.Parts.{tableOf}
 use Rattle.replies.specs.Refusal.{Row, firstOf}

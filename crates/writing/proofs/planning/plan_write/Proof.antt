@@ -8,7 +8,7 @@ use native.Mathlib.Omega.{arith}
 use lib.Dec.{leb}
 use borrow.Author.Needs.{needs}
 use borrow.Author.Tests.{eqb-false, eq-eqb, ne-eqb, not-true, not-false}
-use Rattle.medium.specs.Word.{contentRange}
+use Rattle.limits.specs.Limits.{contentRange}
 use Rattle.medium.specs.Entry.{blankRun}
 use Rattle.medium.proofs.Places.{entry-in}
 use Rattle.table.specs.declared.Table.{Table}

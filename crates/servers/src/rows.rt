@@ -5,8 +5,11 @@ ghost use Rattle.table.specs.Parts.{tableOf};
 ghost use Rattle.replies.specs.Refusal.{firstOf};
 ghost use Rattle.replies.specs.Reply.{checkNumber};
 ghost use Rattle.servers.specs.Servers.{startRows, addServerRows, reweightRows};
+use limits::MAX_CAPACITY;
+use limits::MAX_SERVERS;
 use replies::Check;
 use replies::Refusal;
+use table::Columns;
 use table::Shape;
 
 pub fn start(capacity: u32) -> Check
@@ -15,18 +18,13 @@ pub fn start(capacity: u32) -> Check
     if capacity < 1 {
         return Check::Refused(Refusal::OutOfRange);
     }
-    if capacity > 65536 {
+    if capacity > MAX_CAPACITY {
         return Check::Refused(Refusal::OutOfRange);
     }
     Check::Accepted
 }
 
-pub fn add_server<'a>(
-    shape: Shape,
-    columns: [&'a [u32; 256]; 4],
-    medium: &[u32],
-    weight: u32,
-) -> Check
+pub fn add_server<'a>(shape: Shape, columns: Columns<'a>, medium: &[u32], weight: u32) -> Check
     ensures { λ r. ⌜ checkNumber r ≡ firstOf (addServerRows (tableOf shape (columns .entry)) (now (medium .entry)) weight) ⌝ }
 {
     let capacity = shape.capacity;
@@ -37,20 +35,24 @@ pub fn add_server<'a>(
     if weight > capacity {
         return Check::Refused(Refusal::OutOfRange);
     }
-    if count == 256 {
+    if count == MAX_SERVERS {
         return Check::Refused(Refusal::TooManyServers);
     }
     let entries = capacity as usize;
     if medium.len() < medium::server_at(entries, count + 1) {
         return Check::Refused(Refusal::ShortMedium);
     }
-    if !medium::is_blank(medium, medium::server_at(entries, count), 3 * entries) {
+    if !medium::is_blank(
+        medium,
+        medium::server_at(entries, count),
+        medium::ENTRY_WORDS * entries,
+    ) {
         return Check::Refused(Refusal::NotBlank);
     }
     Check::Accepted
 }
 
-pub fn reweight<'a>(shape: Shape, columns: [&'a [u32; 256]; 4], server: usize, weight: u32) -> Check
+pub fn reweight<'a>(shape: Shape, columns: Columns<'a>, server: usize, weight: u32) -> Check
     ensures { λ r. ⌜ checkNumber r ≡ firstOf (reweightRows (tableOf shape (columns .entry)) server weight) ⌝ }
 {
     let capacity = shape.capacity;

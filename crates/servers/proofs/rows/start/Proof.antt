@@ -1,10 +1,10 @@
--- `servers::checks::start` meets its contract: a return for each side of the range.
+-- `servers::rows::start` meets its contract: a return for each side of the range.
 use borrow.Author.Tests.{le-leb, lt-leb}
 use Rattle.replies.specs.Refusal.{firstOf}
 use Rattle.replies.specs.Reply.{numberOf, checkNumber}
 use Rattle.servers.specs.Servers.{startRows}
-use Rattle.servers.proofs.checks.start.Statement.{statement}
-use Rattle.servers.proofs.checks.start.Tie as tie
+use Rattle.servers.proofs.rows.start.Statement.{statement}
+use Rattle.servers.proofs.rows.start.Tie as tie
 
 returns : tie.Need-returns
 unfolding checkNumber numberOf startRows firstOf

@@ -1,4 +1,4 @@
--- `servers::checks::add_server` meets its contract: a return for each row, in order.
+-- `servers::rows::add_server` meets its contract: a return for each row, in order.
 use Prim.Native.Nat.{ℕ, suc, _*_, _≤_}
 use mathlib.Core.Bool.{true, false}
 use mathlib.Core.Path.{_≡_, sym, _∙_, ap}
@@ -16,8 +16,8 @@ use Rattle.table.proofs.Soundness.{Sound, sound-facts}
 use Rattle.replies.specs.Refusal.{firstOf}
 use Rattle.replies.specs.Reply.{numberOf, checkNumber}
 use Rattle.servers.specs.Servers.{addServerRows}
-use Rattle.servers.proofs.checks.add_server.Statement.{statement}
-use Rattle.servers.proofs.checks.add_server.Tie as tie
+use Rattle.servers.proofs.rows.add_server.Statement.{statement}
+use Rattle.servers.proofs.rows.add_server.Tie as tie
 
 -- the table that is tested
 abbrev T : tie.After-is-sound → Table

@@ -1,4 +1,4 @@
--- `servers::checks::reweight` meets its contract: a return for each row, in order.
+-- `servers::rows::reweight` meets its contract: a return for each row, in order.
 use mathlib.Core.Bool.{true, false}
 use mathlib.Core.Path.{_≡_, sym, _∙_}
 use borrow.Author.Needs.{needs}
@@ -10,8 +10,8 @@ use Rattle.table.proofs.Soundness.{Sound, sound-facts}
 use Rattle.replies.specs.Refusal.{firstOf}
 use Rattle.replies.specs.Reply.{numberOf, checkNumber}
 use Rattle.servers.specs.Servers.{reweightRows}
-use Rattle.servers.proofs.checks.reweight.Statement.{statement}
-use Rattle.servers.proofs.checks.reweight.Tie as tie
+use Rattle.servers.proofs.rows.reweight.Statement.{statement}
+use Rattle.servers.proofs.rows.reweight.Tie as tie
 
 -- the table that is tested
 abbrev T : tie.After-is-sound → Table

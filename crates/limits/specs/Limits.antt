@@ -1,0 +1,18 @@
+-- The limits of an archive, each named once.
+use Prim.Native.Nat.{ℕ}
+
+-- servers of a table, and so the numbers in each of its columns
+abbrev pub maxServers : ℕ
+maxServers = 256
+
+-- entries of a server: document 01's greatest E; no weight is above it
+abbrev pub maxCapacity : ℕ
+maxCapacity = 65536
+
+-- 2^24, the sum of 256 weights of 65,536 each, and so the greatest denominator of a fraction
+abbrev pub maxSum : ℕ
+maxSum = 16777216
+
+-- 2^30: ids and values are below it, and so is the content of a word, which has 30 bits
+abbrev pub contentRange : ℕ
+contentRange = 1073741824

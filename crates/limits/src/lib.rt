@@ -1,0 +1,16 @@
+// The limits of an archive, each named once. The definitions of specs/ have the same names and numbers.
+
+// Servers of a table, and so the numbers in each of its columns.
+pub const MAX_SERVERS: usize = 256;
+
+// Entries of a server: document 01's greatest E. No weight is above it.
+pub const MAX_CAPACITY: u32 = 65536;
+
+// 2^24, the sum of 256 weights of 65,536 each, and so the greatest denominator of a fraction.
+pub const MAX_SUM: u32 = 16777216;
+
+// 2^30: ids and values are below it, and so is the content of a word, which has 30 bits.
+pub const CONTENT_RANGE: u32 = 1073741824;
+
+// A number for each server that there may be.
+pub type Column = [u32; MAX_SERVERS];
