@@ -19,13 +19,15 @@ use Rattle.replies.specs.Refusal.{firstOf, settle}
 use Rattle.replies.proofs.Refusals.{settle-yes, settle-no}
 use Rattle.lookup.specs.Lookup.{lookupRows, lookupReply}
 use Rattle.lookup.proofs.Passed.{Ready, lookup-accepted}
+use Rattle.batch_answer.specs.declared.Batch.{Batch}
+use Rattle.batch_answer.specs.Answer.{mounts, order, filled, batchBy, batchRows, refusedBatch, settledBatch}
+use Rattle.batch_answer.specs.Ends.{Ends}
 use Rattle.batch.specs.declared.Progress.{Progress}
 use Rattle.batch.specs.declared.Parts.{Parts}
-use Rattle.batch.specs.declared.Batch.{Batch}
-use Rattle.batch.specs.Batch.{mounts, order, lookupOpens, openedAt, filled, batchBy, batchRows, refusedBatch, settledBatch, batchReply}
-use Rattle.batch.specs.Batching.{firstRefusal, firstParts, progressAt, withParts, steppedAt, steppedAll, Ends}
-use Rattle.batch.proofs.Orders.{order-none}
-use Rattle.batch.proofs.Tally.{tally-nowhere, tally-end, tally-low}
+use Rattle.batch.specs.Batch.{lookupOpens, openedAt, batchReply}
+use Rattle.batch.specs.Batching.{firstRefusal, firstParts, progressAt, withParts, steppedAt, steppedAll}
+use Rattle.batch_answer.proofs.Orders.{mounts-few, order-none}
+use Rattle.batch_answer.proofs.Tally.{tally-nowhere, tally-end, tally-low}
 use Rattle.batch.proofs.Batches.{DoneFrom, Stepped, first-done, step, all-done, refused-opens}
 
 -- an array of 256 with f below n and 0 from there on
@@ -192,7 +194,7 @@ module _ (t : Table) (m ids : List ℕ) where
     servers-low i b = servers-cases (λ (c : ℕ). nth (parts .ends) i ≤ c)
         (tally-low (lookupOpens t m (nth ids i)) (t .count) _ _ (done .part i b .tally))
         (λ h.
-        let e = last-ends parts done .nowhere i b ∙ rw (someBelow-none (openedAt t m ids i) (t .count) (λ k c. h i k)) in
+        let e : eqb (nth (parts .ends) i) 0 ≡ true = last-ends parts done .nowhere i b ∙ rw (someBelow-none (openedAt t m ids i) (t .count) (λ k c. h i k)) in
         omega (arith, eqb-true (nth (parts .ends) i) 0 e))
 
   servers-few : servers ≤ 256
@@ -214,8 +216,7 @@ module _ (t : Table) (m ids : List ℕ) where
 
   -- no more servers are opened than there are
   pub mounted-few : (k : ℕ) (parts : Parts) (mounted : ℕ) → BatchFrom k parts mounted → mounted ≤ t .count
-  unfolding mounts
-  mounted-few k parts mounted from = omega (arith, from .counted, countBelow-le (λ j. someBelow (λ i. openedAt t m ids i j) n) (t .count))
+  mounted-few k parts mounted from = omega (arith, from .counted, mounts-few (openedAt t m ids) n (t .count))
 
   -- a server that is still to come is there, and so are all
   pub ready-there : (k : ℕ) → k < servers → (k < t .count) × Ready t m

@@ -11,7 +11,7 @@ use lib.Dec.{ltb, eqb}
 use borrow.Author.Tests.{not-true, eqb-false}
 use Rattle.lists.proofs.Tests.{byBool, and-l, and-r}
 use Rattle.replies.specs.Refusal.{Row, firstOf, settle}
-use Rattle.batch.specs.Batch.{batchBy, batchRows, settledBatch}
+use Rattle.batch_answer.specs.Answer.{batchBy, batchRows, settledBatch}
 use Rattle.history.specs.Call.{Call, addServer, reweight, write, delete, lookup, batch, Compared}
 use Rattle.history.specs.Ledger.{Ledger, Standing, Entered, standing, enterBy, addServerRowsL, reweightRowsL, writeRowsL, deleteRowsL, lookupRowsL, standingReply, batchL, enter, ledgerReplies}
 use Rattle.history.proofs.Entering.{entered}

@@ -15,7 +15,7 @@ use Rattle.lookup.specs.Lookup.{lookupReply}
 use Rattle.deletion.specs.Deletion.{deleteReply, deleteMedium}
 use Rattle.writing.specs.Writing.{writeReply, writeTable, writeMedium}
 use Rattle.servers.specs.Servers.{startTable, addServerReply, addServerTable, reweightReply, reweightTable}
-use Rattle.batch.specs.declared.Batch.{Batch}
+use Rattle.batch_answer.specs.declared.Batch.{Batch}
 use Rattle.batch.specs.Batch.{batchReply}
 use Rattle.history.specs.Call.{Call, addServer, reweight, write, delete, lookup, batch}
 

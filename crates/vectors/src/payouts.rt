@@ -2,7 +2,7 @@
 // finding.
 use crate::calls;
 use crate::print;
-use batch::Batch;
+use batch_answer::Batch;
 use table::Table;
 
 // Two servers of equal weight, of which the second is read for ids 3 and 5 and not for 2: 3 is filed there, 2 on the first.

@@ -9,7 +9,7 @@ use borrow.Author.Tests.{eqb-true, eq-eqb, ne-eqb, ltb-true, ltb-false}
 use Rattle.lists.specs.Below.{someBelow, countBelow}
 use Rattle.lists.proofs.Tests.{byBool, true-not-false, at-or-else, and-l, and-r, and-i, iff-eq}
 use Rattle.lists.proofs.Below.{someBelow-in, someBelow-none, countBelow-none}
-use Rattle.batch.specs.Batch.{endsAt}
+use Rattle.batch_answer.specs.Answer.{endsAt}
 
 -- the end is one more than the lowest server that is opened from k on, and 0 where there is none
 pub record Tally (opens : ℕ → Bool) (count k opened end : ℕ) : Type 0 where

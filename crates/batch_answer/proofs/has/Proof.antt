@@ -1,4 +1,4 @@
--- `batch::batching::has` meets its contract. The invariant: none of the numbers passed is the one looked for.
+-- `batch_answer::has` meets its contract. The invariant: none of the numbers passed is the one looked for.
 use Prim.Native.Nat.{ℕ, _≤_, _-_}
 use mathlib.Core.Path.{_≡_, refl, sym}
 use mathlib.Core.Bool.{Bool, false}
@@ -9,8 +9,8 @@ use borrow.Author.Needs.{needs}
 use borrow.Author.Tests.{eq-eqb, ne-eqb}
 use Rattle.lists.specs.Below.{nth, someBelow}
 use Rattle.lists.proofs.Below.{someBelow-in, someBelow-more}
-use Rattle.batch.proofs.batching.has.Statement.{statement}
-use Rattle.batch.proofs.batching.has.Tie as tie
+use Rattle.batch_answer.proofs.has.Statement.{statement}
+use Rattle.batch_answer.proofs.has.Tie as tie
 
 -- the number at a position is x
 abbrev isAt : List ℕ → ℕ → ℕ → Bool
