@@ -1,34 +1,17 @@
-// The known steps, rounds, draws and picks.
+// The method on plain numbers: steps, rounds, seeds, draws, picks, and the comparisons at the edges.
 ghost use Prim.Native.Nat.{_≤_};
 use crate::print;
+use placement::Fraction;
 
-pub fn steps() {
-    print::number(b"step of server 0: ", placement::step(0) as u64);
-    print::number(b"step of server 2: ", placement::step(2) as u64);
-}
-
-pub fn rounds() {
-    let one = placement::round(1);
-    let two = placement::round(one);
-    let three = placement::round(two);
-    print::number(b"seed 1 after one round: ", one as u64);
-    print::number(b"seed 1 after two rounds: ", two as u64);
-    print::number(b"seed 1 after three rounds: ", three as u64);
-}
-
-pub fn draws() {
-    print::number(
-        b"draw of id 626627286 on server 2: ",
-        placement::draw(626627286, 2) as u64,
-    );
-    print::number(
-        b"seed of id 626627285 on server 2, its sum being 0: ",
-        placement::seed(626627285, 2) as u64,
-    );
-    print::number(
-        b"draw of id 626627285 on server 2: ",
-        placement::draw(626627285, 2) as u64,
-    );
+// A seed after this many rounds.
+fn rounds(seed: u32, n: u32) -> u32 {
+    let mut s = seed;
+    let mut i: u32 = 0;
+    while i < n {
+        s = placement::round(s);
+        i += 1;
+    }
+    s
 }
 
 // The write server of id 626627286 among three servers of these weights.
@@ -42,9 +25,36 @@ fn picked(first: u32, second: u32, third: u32) -> u64
     placement::write_server(&weights, 3, 626627286) as u64
 }
 
-pub fn picks() {
-    print::number(b"weights 1, 0, 2 pick server ", picked(1, 0, 2));
-    print::number(b"weights 2, 0, 2 pick server ", picked(2, 0, 2));
-    print::number(b"weights 0, 0, 5 pick server ", picked(0, 0, 5));
-    print::number(b"weights 0, 0, 0 pick server ", picked(0, 0, 0));
+// p the step of a server, s the seed and d the draw of an id on a server, r a seed after some rounds, k the pick among three
+// servers of these weights.
+fn number(letter: u8, a: u32, b: u32, c: u32) -> u64 {
+    match letter {
+        b'p' => placement::step((a % 256) as usize) as u64,
+        b's' => placement::seed(a, (b % 256) as usize) as u64,
+        b'd' => placement::draw(a, (b % 256) as usize) as u64,
+        b'r' => rounds(a, b) as u64,
+        _ => picked(a % 65537, b % 65537, c % 65537),
+    }
+}
+
+fn exceeds(num: u32, den: u32, draw: u32) -> bool {
+    placement::exceeds(Fraction { num, den }, draw)
+}
+
+fn at_least(a: u32, b: u32, c: u32, d: u32) -> bool {
+    placement::at_least(Fraction { num: a, den: b }, Fraction { num: c, den: d })
+}
+
+// e whether a fraction exceeds a draw, l whether it is at least another; the others are numbers.
+pub fn show(letter: u8, numbers: [u32; 8], text: &[u8]) {
+    let a = numbers[0];
+    let b = numbers[1];
+    let c = numbers[2];
+    if letter == b'e' {
+        print::test(text, exceeds(a, b, c));
+    } else if letter == b'l' {
+        print::test(text, at_least(a, b, c, numbers[3]));
+    } else {
+        print::number(text, number(letter, a, b, c));
+    }
 }

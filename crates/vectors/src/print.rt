@@ -1,14 +1,46 @@
-// Lines of output: a text, then a number, yes or no, or a reply in document 01's numbers.
+// Lines of output: a text, then numbers, or yes or no. Nothing is printed where there is no text.
 use replies::Reply;
 
-pub fn number(text: &[u8], n: u64) {
+fn first(text: &[u8], n: u64) {
     io::write_all(1, text);
     io::print_decimal(1, n);
+}
+
+fn more(n: u64) {
+    io::write_all(1, b" ");
+    io::print_decimal(1, n);
+}
+
+fn end() {
     io::write_all(1, b"\n");
+}
+
+pub fn number(text: &[u8], n: u64) {
+    if text.len() == 0 {
+        return;
+    }
+    first(text, n);
+    end();
 }
 
 pub fn word(text: &[u8], w: u32) {
     number(text, w as u64);
+}
+
+pub fn two(text: &[u8], a: u32, b: u32) {
+    if text.len() == 0 {
+        return;
+    }
+    first(text, a as u64);
+    more(b as u64);
+    end();
+}
+
+pub fn three(text: &[u8], a: u32, b: u32, c: u32) {
+    first(text, a as u64);
+    more(b as u64);
+    more(c as u64);
+    end();
 }
 
 pub fn test(text: &[u8], yes: bool) {
@@ -22,15 +54,13 @@ pub fn test(text: &[u8], yes: bool) {
 
 // Refusal, server, value, opened and invalidated.
 pub fn reply(text: &[u8], r: Reply) {
-    io::write_all(1, text);
-    io::print_decimal(1, r.refusal as u64);
-    io::write_all(1, b" ");
-    io::print_decimal(1, r.server as u64);
-    io::write_all(1, b" ");
-    io::print_decimal(1, r.value as u64);
-    io::write_all(1, b" ");
-    io::print_decimal(1, r.opened as u64);
-    io::write_all(1, b" ");
-    io::print_decimal(1, r.invalidated as u64);
-    io::write_all(1, b"\n");
+    if text.len() == 0 {
+        return;
+    }
+    first(text, r.refusal as u64);
+    more(r.server as u64);
+    more(r.value as u64);
+    more(r.opened as u64);
+    more(r.invalidated as u64);
+    end();
 }

@@ -1,17 +1,14 @@
--- `vectors::upkeep::all_but_one` ends: the loop counts up to 255.
+-- `vectors::calls::add_servers` ends: the loop counts up to n.
 use Prim.Native.Nat.{_≤_, _-_}
 use borrow.Author.Needs.{needs}
-use Rattle.vectors.proofs.upkeep.all_but_one.Statement.{statement}
-use Rattle.vectors.proofs.upkeep.all_but_one.Tie as tie
+use Rattle.vectors.proofs.calls.add_servers.Statement.{statement}
+use Rattle.vectors.proofs.calls.add_servers.Tie as tie
 
 abbrev Inv-loop : tie.InvT-loop
-Inv-loop medium table₀ i₀ table i = i ≤ 255
+Inv-loop medium n next₀ i₀ next i = i ≤ n
 
 abbrev μ-loop : tie.MeasureT-loop
-μ-loop medium table₀ i₀ table i = 255 - i
-
-start-requires : tie.Need-start-requires Inv-loop μ-loop
-start-requires c κs = search needs
+μ-loop medium n next₀ i₀ next i = n - i
 
 loop-holds : tie.Need-loop-holds Inv-loop μ-loop
 loop-holds c = search needs
@@ -31,16 +28,7 @@ loop-again c = search needs
 returns : tie.Need-returns Inv-loop μ-loop
 returns c = search needs
 
-pub all-but-one-spec : {M : Type 1} → statement M
-all-but-one-spec =
+pub add-servers-spec : {M : Type 1} → statement M
+add-servers-spec =
     tie.close
-    (tie.spec
-    Inv-loop
-    μ-loop
-    start-requires
-    loop-holds
-    add-server-requires
-    add-i
-    loop-less
-    loop-again
-    returns)
+    (tie.spec Inv-loop μ-loop loop-holds add-server-requires add-i loop-less loop-again returns)
