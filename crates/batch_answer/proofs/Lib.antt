@@ -1,3 +1,4 @@
+pub mod Filled
 pub mod Orders
 mod Laying
 pub mod Tally
