@@ -9,11 +9,6 @@ pub struct Line {
     pub numbers: [u32; 8],
 }
 
-struct Number {
-    value: u32,
-    next: usize,
-}
-
 // The position after the next such byte, or the end.
 fn after(input: &[u8], from: usize, byte: u8) -> usize
     requires { ⌜ from < length (now input) ⌝ }
@@ -30,41 +25,27 @@ fn after(input: &[u8], from: usize, byte: u8) -> usize
     i
 }
 
-// The number after the byte at a position, and where it ends; 0 where there is none on this line.
-fn number_at(input: &[u8], from: usize) -> Number {
-    let mut i = from;
-    if i < input.len() {
-        if input[i] == b' ' {
-            i += 1;
-        }
-    }
-    let mut value: u64 = 0;
-    while i < input.len() {
-        let b = input[i];
-        if b < 48 {
-            break;
-        }
-        if b > 57 {
-            break;
-        }
-        value = (value * 10 + (b - 48) as u64) % 4294967296;
-        i += 1;
-    }
-    Number {
-        value: value as u32,
-        next: i,
-    }
+// A number with one digit more.
+fn longer(number: u32, digit: u8) -> u32 {
+    ((number as u64 * 10 + (digit % 16) as u64) % 4294967296) as u32
 }
 
+// The numbers up to the line's end, a blank before each: the first blank leads from the last place to the first.
 fn numbers(input: &[u8], from: usize) -> [u32; 8] {
     let mut found: [u32; 8] = [0; 8];
-    let mut at = from;
-    let mut k: usize = 0;
-    while k < 8 {
-        let one = number_at(input, at);
-        found[k] = one.value;
-        at = one.next;
-        k += 1;
+    let mut k: usize = 7;
+    let mut i = from;
+    while i < input.len() {
+        let b = input[i];
+        if b == b'\n' {
+            break;
+        }
+        if b == b' ' {
+            k = (k + 1) % 8;
+        } else {
+            found[k] = longer(found[k], b);
+        }
+        i += 1;
     }
     found
 }
@@ -85,7 +66,7 @@ pub fn read(input: &[u8], at: usize) -> Line
     }
     Line {
         call,
-        next: after(input, call, 10),
+        next: after(input, call, b'\n'),
         letter: input[call],
         numbers: numbers(input, call + 1),
     }

@@ -8,10 +8,7 @@ ghost use mathlib.Core.Path.{_≡_};
 ghost use lib.ListN.{length};
 
 mod batches;
-mod calls;
-mod draws;
 mod lines;
-mod print;
 
 use libc::STDIN_FILENO;
 use table::Table;
@@ -23,10 +20,10 @@ fn run_case(table: Table, medium: &mut [u32], letter: u8, numbers: [u32; 8], tex
         return table;
     }
     if letter >= b'a' {
-        draws::show(letter, numbers, text);
+        vectors_calls::show_draw(letter, numbers, text);
         return table;
     }
-    calls::run(table, medium, letter, numbers[0], numbers[1], text)
+    vectors_calls::run_call(table, medium, letter, numbers[0], numbers[1], text)
 }
 
 fn blank() -> [u32; 768]
@@ -39,7 +36,7 @@ fn blank() -> [u32; 768]
 fn run_all(input: &[u8]) {
     let mut medium = blank();
     let mut words: u32 = 0;
-    let mut table = calls::start(1);
+    let mut table = vectors_calls::start(1);
     let mut at: usize = 0;
     while at < input.len() {
         let line = lines::read(input, at);

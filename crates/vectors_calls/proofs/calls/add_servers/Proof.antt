@@ -1,8 +1,8 @@
--- `vectors::calls::add_servers` ends: the loop counts up to n.
+-- `vectors_calls::calls::add_servers` ends: the loop counts up to n.
 use Prim.Native.Nat.{_≤_, _-_}
 use borrow.Author.Needs.{needs}
-use Rattle.vectors.proofs.calls.add_servers.Statement.{statement}
-use Rattle.vectors.proofs.calls.add_servers.Tie as tie
+use Rattle.vectors_calls.proofs.calls.add_servers.Statement.{statement}
+use Rattle.vectors_calls.proofs.calls.add_servers.Tie as tie
 
 abbrev Inv-loop : tie.InvT-loop
 Inv-loop medium n next₀ i₀ next i = i ≤ n

@@ -46,15 +46,13 @@ fn at_least(a: u32, b: u32, c: u32, d: u32) -> bool {
 }
 
 // e whether a fraction exceeds a draw, l whether it is at least another; the others are numbers.
-pub fn show(letter: u8, numbers: [u32; 8], text: &[u8]) {
+pub fn show_draw(letter: u8, numbers: [u32; 8], text: &[u8]) {
     let a = numbers[0];
     let b = numbers[1];
     let c = numbers[2];
-    if letter == b'e' {
-        print::test(text, exceeds(a, b, c));
-    } else if letter == b'l' {
-        print::test(text, at_least(a, b, c, numbers[3]));
-    } else {
-        print::number(text, number(letter, a, b, c));
+    match letter {
+        b'e' => print::test(text, exceeds(a, b, c)),
+        b'l' => print::test(text, at_least(a, b, c, numbers[3])),
+        _ => print::print_number(text, number(letter, a, b, c)),
     }
 }

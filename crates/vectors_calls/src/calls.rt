@@ -69,10 +69,14 @@ fn lookup(table: Table, medium: &[u32], id: u32, text: &[u8]) {
     );
 }
 
+fn wide(x: u32) -> u64 {
+    x as u64
+}
+
 fn show_word(medium: &[u32], i: u32, text: &[u8]) {
     let at = i as usize;
     if at < medium.len() {
-        print::word(text, medium[at]);
+        print::print_number(text, wide(medium[at]));
     }
 }
 
@@ -100,7 +104,14 @@ fn run_reading(table: Table, medium: &[u32], letter: u8, a: u32, b: u32, text: &
 }
 
 // X is a write after which the older table is kept, P burns a word from outside; the others are the day sheet's letters.
-pub fn run(table: Table, medium: &mut [u32], letter: u8, a: u32, b: u32, text: &[u8]) -> Table {
+pub fn run_call(
+    table: Table,
+    medium: &mut [u32],
+    letter: u8,
+    a: u32,
+    b: u32,
+    text: &[u8],
+) -> Table {
     match letter {
         b'W' => write(table, medium, a, b, text),
         b'X' => write_and_forget(table, medium, a, b, text),

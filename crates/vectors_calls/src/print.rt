@@ -15,16 +15,12 @@ fn end() {
     io::write_all(1, b"\n");
 }
 
-pub fn number(text: &[u8], n: u64) {
+pub fn print_number(text: &[u8], n: u64) {
     if text.len() == 0 {
         return;
     }
     first(text, n);
     end();
-}
-
-pub fn word(text: &[u8], w: u32) {
-    number(text, w as u64);
 }
 
 pub fn two(text: &[u8], a: u32, b: u32) {
@@ -36,7 +32,7 @@ pub fn two(text: &[u8], a: u32, b: u32) {
     end();
 }
 
-pub fn three(text: &[u8], a: u32, b: u32, c: u32) {
+pub fn print_three(text: &[u8], a: u32, b: u32, c: u32) {
     first(text, a as u64);
     more(b as u64);
     more(c as u64);
