@@ -1,3 +1,4 @@
+pub mod Found
 pub mod Filled
 pub mod Orders
 mod Laying

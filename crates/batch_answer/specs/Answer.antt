@@ -41,6 +41,14 @@ pub record EachOnce (n : ℕ) (xs : List ℕ) : Type 0 where
   pub within : (i : ℕ) → List·Memᴰ i xs → i < n
   pub once : (i : ℕ) → i < n → occurrences i xs ≡ 1
 
+-- i stands before j in a list
+pub record Before (i j : ℕ) (xs : List ℕ) : Type 0 where
+  pub front : List ℕ
+  pub back : List ℕ
+  pub split : xs ≡ front ++ back
+  pub first : List·Memᴰ i front
+  pub later : List·Memᴰ j back
+
 -- an array of 256 numbers: f i below n, and 0 from there on
 unfoldable pub filled : (ℕ → ℕ) → ℕ → List ℕ
 filled f n = setBelow f n (replicate 256 0)
