@@ -46,8 +46,8 @@ use Rattle.writing.proofs.Accepted.{write-accepted}
 use Rattle.writing.proofs.Targets.{target-is}
 use Rattle.servers.specs.Servers.{addServerRows, addServerReply, addServerTable, reweightRows, reweightReply, reweightTable}
 use Rattle.servers.proofs.Accepted.{addServer-accepted, reweight-accepted}
+use Rattle.batch_answer.proofs.Orders.{batch-cong}
 use Rattle.batch.specs.Batch.{lookupOpens, openedAt, batchReply}
-use Rattle.batch.proofs.Orders.{batch-cong}
 
 -- two tables that agree below the count, with their arrays' lengths
 pub record Alike (t u : Table) : Type 0 where

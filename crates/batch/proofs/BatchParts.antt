@@ -7,10 +7,10 @@ use mathlib.Core.Bool.{Bool, true, false}
 use mathlib.Core.List.{List}
 use native.Mathlib.Omega.{arith}
 use lib.ListN.{length, replicate, length-replicate}
-use lib.Seq.{sets, ext-getD}
-use lib.Dec.{eqb, ltb}
-use borrow.Author.Tests.{eqb-true, eqb-false, ltb-true, ltb-false, lt-ltb, le-ltb}
-use Rattle.lists.specs.Below.{nth, someBelow, countBelow, setBelow}
+use lib.Seq.{sets}
+use lib.Dec.{eqb}
+use borrow.Author.Tests.{eqb-true, eqb-false, lt-ltb, le-ltb}
+use Rattle.lists.specs.Below.{nth, someBelow, countBelow}
 use Rattle.lists.proofs.Tests.{byBool}
 use Rattle.lists.proofs.Below.{length-setBelow, setBelow-at, setBelow-above, someBelow-none, someBelow-cong, countBelow-none, countBelow-le, nth-zeros}
 use Rattle.table.specs.declared.Table.{Table}
@@ -20,24 +20,17 @@ use Rattle.replies.proofs.Refusals.{settle-yes, settle-no}
 use Rattle.checks.specs.Ready.{readyRows}
 use Rattle.lookup.specs.Lookup.{lookupReply}
 use Rattle.checks.proofs.Passed.{Ready, ready-accepted}
+use Rattle.batch_answer.specs.declared.Batch.{Batch}
+use Rattle.batch_answer.specs.Answer.{mounts, order, filled, batchBy, batchRows, refusedBatch, settledBatch}
+use Rattle.batch_answer.specs.Ends.{Ends}
 use Rattle.batch.specs.declared.Progress.{Progress}
 use Rattle.batch.specs.declared.Parts.{Parts}
-use Rattle.batch.specs.declared.Batch.{Batch}
-use Rattle.batch.specs.Batch.{mounts, order, lookupOpens, openedAt, filled, batchBy, batchRows, refusedBatch, settledBatch, batchReply}
-use Rattle.batch.specs.Batching.{firstRefusal, firstParts, progressAt, withParts, steppedAt, steppedAll, Ends}
-use Rattle.batch.proofs.Orders.{order-none}
-use Rattle.batch.proofs.Tally.{tally-nowhere, tally-end, tally-low}
+use Rattle.batch.specs.Batch.{lookupOpens, openedAt, batchReply}
+use Rattle.batch.specs.Batching.{firstRefusal, firstParts, progressAt, withParts, steppedAt, steppedAll}
+use Rattle.batch_answer.proofs.Filled.{filled-is}
+use Rattle.batch_answer.proofs.Orders.{mounts-few, order-none}
+use Rattle.batch_answer.proofs.Tally.{tally-nowhere, tally-end, tally-low}
 use Rattle.batch.proofs.Batches.{DoneFrom, Stepped, first-done, step, all-done, refused-opens}
-
--- an array of 256 with f below n and 0 from there on
-filled-is : (f : ℕ → ℕ) (n : ℕ) → n ≤ 256 → (xs : List ℕ) → length xs ≡ 256
-    → ((i : ℕ) → i < n → nth xs i ≡ f i) → ((i : ℕ) → n ≤ i → nth xs i ≡ 0) → xs ≡ filled f n
-unfolding filled
-filled-is f n few xs long front rest =
-    let e : length (setBelow f n (replicate 256 0)) ≡ 256 = length-setBelow f n (replicate 256 0) ∙ length-replicate {A = ℕ} 256 0 in
-    ext-getD 0 xs (setBelow f n (replicate 256 0)) (long ∙ sym e) (λ i b. byBool (ltb i n)
-    (λ d. front i (ltb-true i n d) ∙ sym (setBelow-at f n (replicate 256 0) (rw (length-replicate {A = ℕ} 256 0) few) i (ltb-true i n d)))
-    (λ d. rest i (ltb-false i n d) ∙ sym (setBelow-above f n (replicate 256 0) i (ltb-false i n d) ∙ nth-zeros 256 i)))
 
 same-batch : {a b : ℕ} {r s v w o p x y : List ℕ} → a ≡ b → r ≡ s → v ≡ w → o ≡ p → x ≡ y
     → _≡_ {A = Batch} (record { refusal = 0; mounts = a; refusals = r; values = v; opened = o; order = x })
@@ -215,8 +208,7 @@ module _ (t : Table) (m ids : List ℕ) where
 
   -- no more servers are opened than there are
   pub mounted-few : (k : ℕ) (parts : Parts) (mounted : ℕ) → BatchFrom k parts mounted → mounted ≤ t .count
-  unfolding mounts
-  mounted-few k parts mounted from = omega (arith, from .counted, countBelow-le (λ j. someBelow (λ i. openedAt t m ids i j) n) (t .count))
+  mounted-few k parts mounted from = omega (arith, from .counted, mounts-few (openedAt t m ids) n (t .count))
 
   -- a server that is still to come is there, and so are all
   pub ready-there : (k : ℕ) → k < servers → (k < t .count) × Ready t m

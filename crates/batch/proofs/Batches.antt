@@ -34,7 +34,7 @@ use Rattle.batch.specs.declared.Progress.{Progress}
 use Rattle.batch.specs.Batch.{lookupOpens}
 use Rattle.batch.specs.Batching.{absentSoFar, firstRefusal, visited, stepped}
 use Rattle.batch.proofs.Stepping.{step-tested, step-settled}
-use Rattle.batch.proofs.Tally.{Tally, tally-start, tally-none, tally-skip, tally-open, tally-above, tally-count}
+use Rattle.batch_answer.proofs.Tally.{Tally, tally-start, tally-none, tally-skip, tally-open, tally-above, tally-count}
 
 -- refusal and value of an entry that is met do not hang on how many servers were opened, and it is not called absent
 module _ (capacity : ℕ) (m : List ℕ) where

@@ -1,6 +1,3 @@
-pub mod Orders
-mod Laying
 mod Stepping
-mod Tally
 mod Batches
 mod BatchParts

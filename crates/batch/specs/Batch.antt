@@ -1,79 +1,16 @@
--- A batch of lookups, the paper's payout run (document 02, item 1), of up to 256 ids: the answers that single lookups on the same
--- table and medium give, how many servers are opened for all of them together, and the order in which they are found.
-use Prim.Native.Nat.{ℕ, zero, suc, _+_, _<_}
-use mathlib.Core.Path.{_≡_}
-use mathlib.Core.Bool.{Bool, false, cond, not, _&&_}
-use mathlib.Core.List.{List, [], _∷_, _++_, List·Memᴰ}
-use lib.ListN.{length, replicate}
-use lib.Seq.{sets}
-use lib.Dec.{ltb, eqb}
-use Rattle.lists.specs.Below.{nth, someBelow, upward, countBelow, setBelow}
+-- A batch of lookups (document 02, item 1): the answers that single lookups on the same table and medium give, and the servers
+-- that these open.
+use Prim.Native.Nat.{ℕ}
+use mathlib.Core.Bool.{Bool, false}
+use mathlib.Core.List.{List}
+use lib.ListN.{length}
+use Rattle.lists.specs.Below.{nth}
 use Rattle.table.specs.declared.Table.{Table}
-use Rattle.replies.specs.Refusal.{Row, _when_, firstOf, settle}
+use Rattle.replies.specs.Refusal.{settle}
 use Rattle.lookup.specs.Opened.{opens}
 use Rattle.lookup.specs.Lookup.{lookupRows, lookupReply}
-use Rattle.batch.specs.declared.Batch.{Batch}
-
--- Here `opened i k` says whether server k is opened for the id at position i, below n; count is the number of servers.
-
--- how many servers are opened for some position
-unfoldable pub mounts : (ℕ → ℕ → Bool) → ℕ → ℕ → ℕ
-mounts opened n count = countBelow (λ k. someBelow (λ i. opened i k) n) count
-
--- a search ends at server k: it is opened, and none below it
-unfoldable pub endsAt : (ℕ → Bool) → ℕ → Bool
-endsAt opened k = opened k && not (someBelow opened k)
-
--- the positions whose search ends at a server below count: the highest server first, and on one server the lowest position first
-unfoldable pub byEnd : (ℕ → ℕ → Bool) → ℕ → ℕ → List ℕ
-byEnd opened n zero = []
-byEnd opened n (suc k) = upward (λ i. endsAt (opened i) k) n ++ byEnd opened n k
-
--- the order of finding: before those the positions for which no server is opened
-unfoldable pub order : (ℕ → ℕ → Bool) → ℕ → ℕ → List ℕ
-order opened n count = upward (λ i. not (someBelow (opened i) count)) n ++ byEnd opened n count
-
--- how often a number stands in a list
-unfoldable pub occurrences : ℕ → List ℕ → ℕ
-occurrences i [] = 0
-occurrences i (x ∷ xs) = cond (eqb x i) 1 0 + occurrences i xs
-
--- each number below n stands there once, and no other
-pub record EachOnce (n : ℕ) (xs : List ℕ) : Type 0 where
-  pub within : (i : ℕ) → List·Memᴰ i xs → i < n
-  pub once : (i : ℕ) → i < n → occurrences i xs ≡ 1
-
--- an array of 256 numbers: f i below n, and 0 from there on
-unfoldable pub filled : (ℕ → ℕ) → ℕ → List ℕ
-filled f n = setBelow f n (replicate 256 0)
-
--- the answer to n ids: refusal, value and opened count by position, and which servers are opened for which
-unfoldable pub batchBy : (ℕ → ℕ) → (ℕ → ℕ) → (ℕ → ℕ) → (ℕ → ℕ → Bool) → ℕ → ℕ → Batch
-batchBy refusal value number opened n count = record {
-  refusal = 0;
-  mounts = mounts opened n count;
-  refusals = filled refusal n;
-  values = filled value n;
-  opened = filled number n;
-  order = sets (replicate 256 0) 0 (order opened n count);
-}
-
-abbrev pub refusedBatch : ℕ → Batch
-refusedBatch number = record {
-  refusal = number;
-  mounts = 0;
-  refusals = replicate 256 0;
-  values = replicate 256 0;
-  opened = replicate 256 0;
-  order = replicate 256 0;
-}
-
--- a list of more than 256 ids is out of range; every other one is answered id by id
-unfoldable pub batchRows : List ℕ → List Row
-batchRows ids = 2 when ltb 256 (length ids) ∷ []
-
-unfoldable pub settledBatch : List ℕ → Batch → Batch
-settledBatch ids done = settle (batchRows ids) done (refusedBatch (firstOf (batchRows ids)))
+use Rattle.batch_answer.specs.declared.Batch.{Batch}
+use Rattle.batch_answer.specs.Answer.{batchBy, settledBatch}
 
 -- a single lookup opens server k: none if it is refused before its search
 unfoldable pub lookupOpens : Table → List ℕ → ℕ → ℕ → Bool

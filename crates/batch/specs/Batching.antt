@@ -1,30 +1,29 @@
 -- A batch step by step, for the contracts of the functions that run it: what one server makes of one id's part in it.
-use Prim.Native.Nat.{ℕ, suc, _<_}
-use mathlib.Core.Path.{_≡_}
-use mathlib.Core.Bool.{Bool, cond, not, _&&_}
+use Prim.Native.Nat.{ℕ, suc}
+use mathlib.Core.Bool.{cond, _&&_}
 use mathlib.Core.List.{List}
 use mathlib.Core.Option.{Option, none, some}
 use lib.ListN.{length, replicate}
 use lib.Dec.{leb, eqb}
 use Rattle.limits.specs.Limits.{contentRange}
-use Rattle.lists.specs.Below.{nth, someBelow, highest, upward, setBelow}
+use Rattle.lists.specs.Below.{nth, highest, setBelow}
 use Rattle.placement.specs.declared.Fraction.{Fraction}
 use Rattle.placement.specs.Draw.{modulus, drawOf}
 use Rattle.placement.specs.Fraction.{exceeds}
 use Rattle.medium.specs.Entry.{live}
 use Rattle.lookup.specs.Lookup.{metReply}
+use Rattle.batch_answer.specs.Answer.{filled}
 use Rattle.batch.specs.declared.Newest.{Newest}
 use Rattle.batch.specs.declared.Newest.the-variants.{Entry, Nothing}
 use Rattle.batch.specs.declared.Progress.{Progress}
 use Rattle.batch.specs.declared.Parts.{Parts}
-use Rattle.batch.specs.Batch.{endsAt, filled}
 
 -- what the search of one server answers
 unfoldable pub newestBy : Option ℕ → Newest
 newestBy none = Nothing
 newestBy (some j) = Entry j
 
--- an id that no test refuses is absent so far, by its number 8
+-- the refusal of an id for which no entry was met yet: it is 8, absent, unless a test has refused the id already
 unfoldable pub absentSoFar : ℕ → ℕ
 absentSoFar number = cond (eqb number 0) 8 number
 
@@ -47,7 +46,7 @@ stepped read capacity used m id k p =
     (visited capacity m k (suc (p .opened)) (highest (live capacity used m id k) used))
     p
 
--- the parts of all ids: a number of each for each position
+-- the part of the id at position i
 abbrev pub progressAt : Parts → ℕ → Progress
 progressAt parts i = record { refusal = nth (parts .refusals) i; value = nth (parts .values) i; opened = nth (parts .opened) i; end = nth (parts .ends) i }
 
@@ -75,12 +74,3 @@ steppedAt read capacity used m ids k parts i = stepped read capacity used m (nth
 
 unfoldable pub steppedAll : Fraction → ℕ → ℕ → List ℕ → List ℕ → ℕ → Parts → Parts
 steppedAll read capacity used m ids k parts = withParts (steppedAt read capacity used m ids k parts) (length ids) parts
-
--- numbers that tell where searches end: 0 for one that opens no server, and else one more than the server
-pub record Ends (opened : ℕ → ℕ → Bool) (n count : ℕ) (ends : List ℕ) : Type 0 where
-  pub nowhere : (i : ℕ) → i < n → eqb (nth ends i) 0 ≡ not (someBelow (opened i) count)
-  pub server : (i k : ℕ) → i < n → k < count → eqb (nth ends i) (suc k) ≡ endsAt (opened i) k
-
--- the positions below n whose number is e, the lowest first
-unfoldable pub endingAt : List ℕ → ℕ → ℕ → List ℕ
-endingAt ends n e = upward (λ i. eqb (nth ends i) e) n

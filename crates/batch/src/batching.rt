@@ -2,16 +2,14 @@
 ghost use mathlib.Core.Path.{_≡_};
 ghost use Prim.Native.Nat.{ℕ, _≤_, _<_};
 ghost use lib.ListN.{length};
-ghost use lib.Dec.{eqb};
-ghost use Rattle.lists.specs.Below.{nth, someBelow, highest};
+ghost use Rattle.lists.specs.Below.{nth, highest};
 ghost use Rattle.medium.specs.Entry.{live, Inside};
-ghost use Rattle.batch.specs.Batch.{refusedBatch, batchReply};
+ghost use Rattle.batch.specs.Batch.{batchReply};
 ghost use Rattle.batch.specs.Batching.{newestBy, firstRefusal, firstParts, stepped, steppedAll};
-use crate::Batch;
 use crate::Newest;
 use crate::Parts;
 use crate::Progress;
-use crate::ordering;
+use batch_answer::Batch;
 use placement::Fraction;
 use table::Shape;
 use table::Table;
@@ -145,41 +143,13 @@ fn step_all(
     next
 }
 
-// Whether one of the first `n` numbers is `x`.
-fn has(numbers: &[u32; 256], n: usize, x: u32) -> bool
-    requires { ⌜ n ≤ 256 ⌝ }
-    ensures { λ r. ⌜ r ≡ someBelow (λ i. eqb (nth (now (numbers .entry)) i) x) n ⌝ }
-{
-    let mut i: usize = 0;
-    while i < n {
-        if numbers[i] == x {
-            return true;
-        }
-        i += 1;
-    }
-    false
-}
-
-fn refused_batch(number: u32) -> Batch
-    ensures { λ r. ⌜ r ≡ refusedBatch number ⌝ }
-{
-    Batch {
-        refusal: number,
-        mounts: 0,
-        refusals: [0; 256],
-        values: [0; 256],
-        opened: [0; 256],
-        order: [0; 256],
-    }
-}
-
 // A batch of lookups on a table by value.
 pub fn lookup_batch(table: Table, medium: &[u32], ids: &[u32]) -> Batch
     ensures { λ r. ⌜ r ≡ batchReply table (now (medium .entry)) (now (ids .entry)) ⌝ }
 {
     let n = ids.len();
     if n > 256 {
-        return refused_batch(2);
+        return batch_answer::refused_batch(2);
     }
     let number = replies::check_number(checks::ready(
         Shape {
@@ -206,7 +176,7 @@ pub fn lookup_batch(table: Table, medium: &[u32], ids: &[u32]) -> Batch
             den: table.denominators[k],
         };
         parts = step_all(parts, read, table.capacity, table.used[k], medium, ids, k);
-        if has(&parts.ends, n, k as u32 + 1) {
+        if batch_answer::has(&parts.ends, n, k as u32 + 1) {
             mounts += 1;
         }
     }
@@ -216,6 +186,6 @@ pub fn lookup_batch(table: Table, medium: &[u32], ids: &[u32]) -> Batch
         refusals: parts.refusals,
         values: parts.values,
         opened: parts.opened,
-        order: ordering::order(&parts.ends, n, servers),
+        order: batch_answer::order(&parts.ends, n, servers),
     }
 }

@@ -12,8 +12,8 @@ use Rattle.replies.proofs.Refusals.{settle-both}
 use Rattle.lookup.specs.Opened.{lowest, opens}
 use Rattle.lookup.specs.Lookup.{lookupRows}
 use Rattle.lookup.proofs.Passed.{in-range}
+use Rattle.batch_answer.proofs.Orders.{batch-cong}
 use Rattle.batch.specs.Batch.{lookupOpens, openedAt, batchReply}
-use Rattle.batch.proofs.Orders.{batch-cong}
 use Rattle.history.specs.Call.{Compared, compared}
 use Rattle.history.specs.Ledger.{Ledger, Standing, standing, lookupRowsL, enter, standsFrom, opensL, openedAtL, batchL}
 use Rattle.history.proofs.Events.{placeOf}

@@ -1,26 +1,33 @@
--- The ledger never refuses with 1, 7 or 10, so an archive that answers alike does not either.
+-- The ledger never refuses with 1, 7 or 10, a call or an id of a batch, so an archive that answers alike does not either.
 -- Assumes nothing.
-use Prim.Native.Nat.{ℕ}
-use mathlib.Core.Path.{_≡_, refl}
-use mathlib.Core.Logic.{_≢_, _⊎_, inl, inr}
+use Prim.Native.Nat.{ℕ, zero, suc}
+use mathlib.Core.Path.{_≡_, refl, sym, ap, subst}
+use mathlib.Core.Logic.{_≢_}
 use mathlib.Core.Bool.{Bool, true, not, _&&_}
-use mathlib.Core.List.{List, [], _∷_, List·Memᴰ, List·Memᴰ·not-nil, List·Memᴰ·cases-cons}
+use mathlib.Core.List.{List, [], _∷_}
 use mathlib.Core.Option.{Option, none, some}
 use lib.ListN.{length}
 use lib.Dec.{ltb, eqb}
-use borrow.Author.Tests.{not-true, eqb-false}
+use borrow.Author.Tests.{not-true, eqb-false, ltb-false}
+use Rattle.lists.specs.Below.{nth}
 use Rattle.lists.proofs.Tests.{byBool, and-l, and-r}
+use Rattle.lists.proofs.Below.{nth-zeros}
 use Rattle.replies.specs.Refusal.{Row, firstOf, settle}
-use Rattle.batch.specs.Batch.{batchBy, batchRows, settledBatch}
-use Rattle.history.specs.Call.{Call, addServer, reweight, write, delete, lookup, batch, Compared}
-use Rattle.history.specs.Ledger.{Ledger, Standing, Entered, standing, enterBy, addServerRowsL, reweightRowsL, readyRowsL, writeRowsL, deleteRowsL, lookupRowsL, standingReply, batchL, enter, ledgerReplies}
+use Rattle.batch_answer.specs.declared.Batch.{Batch}
+use Rattle.batch_answer.specs.Answer.{batchBy, batchRows, settledBatch}
+use Rattle.batch_answer.proofs.Filled.{filled-each}
+use Rattle.history.specs.Call.{Call, addServer, reweight, write, delete, lookup, batch, Compared, compared}
+use Rattle.history.specs.Machine.{State, reply, idRefusals, refusals}
+use Rattle.history.specs.Ledger.{Ledger, Standing, Entered, standing, enterBy, addServerRowsL, reweightRowsL, readyRowsL, writeRowsL, deleteRowsL, lookupRowsL, standingReply, lookupL, batchL, enter}
 use Rattle.history.proofs.Entering.{entered}
+use Rattle.history.proofs.Batches.{same-batch}
+use Rattle.history.proofs.Run.{Agrees, step}
 
 -- a number that a list of calls may meet
-unfoldable pub usual : ℕ → Bool
+unfoldable usual : ℕ → Bool
 usual n = not (eqb n 1) && (not (eqb n 7) && not (eqb n 10))
 
-pub usual-is : (n : ℕ) → usual n ≡ true → (n ≢ 1) × (n ≢ 7) × (n ≢ 10)
+usual-is : (n : ℕ) → usual n ≡ true → (n ≢ 1) × (n ≢ 7) × (n ≢ 10)
 unfolding usual
 usual-is n u =
     let v = and-r (not (eqb n 1)) (not (eqb n 7) && not (eqb n 10)) u in (
@@ -61,13 +68,26 @@ enter-usual L (delete id) = entered-usual L (deleteRowsL L id) _ refl refl
 enter-usual L (lookup id) = entered-usual L (lookupRowsL L id) _ refl (standing-usual L id (standing (L .events) id))
 enter-usual L (batch ids) = batch-usual L ids
 
-pub ledger-usual : (calls : List Call) (L : Ledger) (r : Compared) → List·Memᴰ r (ledgerReplies L calls) → usual (r .refusal) ≡ true
-unfolding ledgerReplies
-ledger-usual [] L r d = absurd (List·Memᴰ·not-nil d)
-ledger-usual (c ∷ calls) L r d = go (ledger-usual calls (enter L c .ledger) r) (List·Memᴰ·cases-cons d)
-  where
-    go : (List·Memᴰ r (ledgerReplies (enter L c .ledger) calls) → usual (r .refusal) ≡ true)
-        → (r ≡ enter L c .reply) ⊎ List·Memᴰ r (ledgerReplies (enter L c .ledger) calls)
-        → usual (r .refusal) ≡ true
-    go ih (inl e) = rw e (enter-usual L c)
-    go ih (inr e) = ih e
+-- each id of a batch has the refusal of its lookup
+ids-usual : (L : Ledger) (ids : List ℕ) (i : ℕ) → usual (nth (batchL L ids .refusals) i) ≡ true
+unfolding batchL batchBy settledBatch batchRows settle firstOf enter usual
+ids-usual L ids i = byBool (ltb 256 (length ids))
+    (λ d. rw (d, nth-zeros 256 i))
+    (λ d. rw d (filled-each (λ j. lookupL L (nth ids j) .reply .refusal) (length ids) (ltb-false 256 (length ids) d)
+    (λ (x : ℕ). usual x ≡ true) (λ j. enter-usual L (lookup (nth ids j))) refl i))
+
+-- of a state and a ledger that agree
+module _ (S : State) (L : Ledger) (A : Agrees S L) where
+  ids-never : (c : Call) (i : ℕ) → usual (nth (idRefusals S c) i) ≡ true
+  unfolding idRefusals usual
+  ids-never (addServer weight) i = refl
+  ids-never (reweight server weight) i = refl
+  ids-never (write id value) i = refl
+  ids-never (delete id) i = refl
+  ids-never (lookup id) i = refl
+  ids-never (batch ids) i = subst (λ (b : Batch). usual (nth (b .refusals) i) ≡ true) (sym (same-batch A ids)) (ids-usual L ids i)
+
+  pub never : (c : Call) (i : ℕ) → let number = nth (refusals S c) i in (number ≢ 1) × (number ≢ 7) × (number ≢ 10)
+  unfolding refusals compared
+  never c zero = usual-is (reply S c .refusal) (rw (ap (λ (r : Compared). r .refusal) (step S L A c .alike)) (enter-usual L c))
+  never c (suc i) = usual-is (nth (idRefusals S c) i) (ids-never c i)

@@ -16,7 +16,7 @@ use Rattle.table.proofs.Soundness.{empty-arrays, empty-sound}
 use Rattle.replies.specs.Refusal.{firstOf}
 use Rattle.replies.proofs.Refusals.{passed, settle-yes}
 use Rattle.servers.specs.Servers.{startRows, startTable}
-use Rattle.batch.specs.declared.Batch.{Batch}
+use Rattle.batch_answer.specs.declared.Batch.{Batch}
 use Rattle.history.specs.Call.{Call, addServer, reweight, write, delete, lookup, batch, Compared, compared}
 use Rattle.history.specs.Machine.{State, inBrief, reply, next, after, replies, begin}
 use Rattle.history.specs.Ledger.{Ledger, opening, usedBy, standing, enter, ledgerAfter, ledgerReplies}

@@ -3,7 +3,7 @@
 use Prim.Native.Nat.{ℕ, _<_}
 use mathlib.Core.Path.{_≡_, refl, sym, ap, _∙_}
 use mathlib.Core.Logic.{_↔_}
-use mathlib.Core.List.{List, _∷_, _++_, Memᴰ·map}
+use mathlib.Core.List.{List, _∷_, _++_}
 use mathlib.Core.Option.{Option, none, some}
 use native.Mathlib.Omega.{arith}
 use Rattle.limits.specs.Limits.{contentRange}
@@ -21,7 +21,7 @@ use Rattle.history.proofs.Holds.{write-there}
 use Rattle.history.proofs.LookupStep.{stands-written, looked}
 use Rattle.history.proofs.Batches.{same-batch}
 use Rattle.history.proofs.Run.{Agrees, begin-agrees, run}
-use Rattle.history.proofs.Never.{usual-is, ledger-usual}
+use Rattle.history.proofs.Never.{never}
 use Rattle.history.proofs.Counting.{live-writes}
 use Rattle.history.proofs.Unaltered.{after-once, after-append}
 
@@ -92,5 +92,5 @@ demand3 capacity n z calls =
       stands = stands S L A;
       own = λ newer older newer′ older′ id value id′ value′ server p q u. own-entry newer newer′ older older′ id value id′ value′ server (sym p ∙ q) u;
       live = live-writes S L A;
-      never = λ x d. usual-is (x .refusal) (ledger-usual calls (opening capacity n) (compared x) (rw (← (r .alike)) (Memᴰ·map compared d)));
+      never = λ before later c e. never (stateThen capacity n before) (ledgerThen capacity n before) (run before (begin capacity n) (opening capacity n) (begin-agrees capacity n z) .agrees) c;
     }

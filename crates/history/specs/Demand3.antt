@@ -3,7 +3,7 @@ use Prim.Native.Nat.{ℕ, _≤_, _<_}
 use mathlib.Core.Bool.{Bool, true, not, _&&_}
 use mathlib.Core.Path.{_≡_}
 use mathlib.Core.Logic.{_↔_, _≢_}
-use mathlib.Core.List.{List, [], _∷_, _++_, List·Memᴰ, map}
+use mathlib.Core.List.{List, [], _∷_, _++_, map}
 use lib.ListN.{length}
 use lib.Dec.{eqb}
 use Rattle.limits.specs.Limits.{contentRange}
@@ -14,7 +14,7 @@ use Rattle.replies.specs.declared.Reply.{Reply}
 use Rattle.lookup.specs.Lookup.{lookupReply}
 use Rattle.batch.specs.Batch.{batchReply}
 use Rattle.history.specs.Call.{Call, batch, compared}
-use Rattle.history.specs.Machine.{State, after, replies, begin, liveEntries}
+use Rattle.history.specs.Machine.{State, refusals, after, replies, begin, liveEntries}
 use Rattle.history.specs.Ledger.{Event, wrote, deleted, Ledger, opening, usedBy, writes, batchL, ledgerAfter, ledgerReplies}
 
 -- no event of an id among these
@@ -89,6 +89,7 @@ module _ (capacity n : ℕ) (calls : List Call) where
         → length older ≡ length older′
     -- the live entries of all ids together are at most the accepted writes
     pub live : liveEntries S ≤ writes (L .events)
-    -- 1, 7 and 10 never come
-    pub never : (r : Reply) → List·Memᴰ r (replies (begin capacity n) calls)
-        → (r .refusal ≢ 1) × (r .refusal ≢ 7) × (r .refusal ≢ 10)
+    -- 1, 7 and 10 never come, as the refusal of a call or of an id of a batch
+    pub never : (before later : List Call) (c : Call) → before ++ (c ∷ later) ≡ calls → (i : ℕ)
+        → let number = nth (refusals (stateThen capacity n before) c) i in
+        (number ≢ 1) × (number ≢ 7) × (number ≢ 10)

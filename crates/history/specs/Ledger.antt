@@ -13,8 +13,8 @@ use Rattle.placement.specs.declared.Fraction.{Fraction}
 use Rattle.placement.specs.Fraction.{raise}
 use Rattle.placement.specs.Rule.{writeP, writeServer, readable}
 use Rattle.replies.specs.Refusal.{Row, _when_, firstOf, settle}
-use Rattle.batch.specs.declared.Batch.{Batch}
-use Rattle.batch.specs.Batch.{batchBy, settledBatch}
+use Rattle.batch_answer.specs.declared.Batch.{Batch}
+use Rattle.batch_answer.specs.Answer.{batchBy, settledBatch}
 use Rattle.history.specs.Call.{Call, addServer, reweight, write, delete, lookup, batch, Compared}
 
 -- an accepted write (id, value, server) or an accepted delete

@@ -16,7 +16,7 @@ use Rattle.lookup.specs.Lookup.{lookupReply}
 use Rattle.deletion.specs.Deletion.{deleteReply, deleteMedium}
 use Rattle.writing.specs.Writing.{writeReply, writeTable, writeMedium}
 use Rattle.servers.specs.Servers.{startTable, addServerReply, addServerTable, reweightReply, reweightTable}
-use Rattle.batch.specs.declared.Batch.{Batch}
+use Rattle.batch_answer.specs.declared.Batch.{Batch}
 use Rattle.batch.specs.Batch.{batchReply}
 use Rattle.history.specs.Call.{Call, addServer, reweight, write, delete, lookup, batch}
 
@@ -35,6 +35,19 @@ reply S (write id value) = writeReply (S .table) (S .medium) id value
 reply S (delete id) = deleteReply (S .table) (S .medium) id
 reply S (lookup id) = lookupReply (S .table) (S .medium) id
 reply S (batch ids) = inBrief (batchReply (S .table) (S .medium) ids)
+
+-- the refusal numbers of the ids of a batch; no other call has any
+unfoldable pub idRefusals : State → Call → List ℕ
+idRefusals S (addServer weight) = []
+idRefusals S (reweight server weight) = []
+idRefusals S (write id value) = []
+idRefusals S (delete id) = []
+idRefusals S (lookup id) = []
+idRefusals S (batch ids) = batchReply (S .table) (S .medium) ids .refusals
+
+-- every refusal number that a call answers: its reply's, and those of the ids
+unfoldable pub refusals : State → Call → List ℕ
+refusals S c = reply S c .refusal ∷ idRefusals S c
 
 unfoldable pub next : State → Call → State
 next S (addServer weight) = record { table = addServerTable (S .table) (S .medium) weight; medium = S .medium }

@@ -8,7 +8,7 @@ use borrow.Author.Needs.{needs}
 use Rattle.lists.specs.Below.{nth, setBelow}
 use Rattle.lists.proofs.Below.{setBelow-more}
 use Rattle.batch.specs.declared.Parts.{Parts}
-use Rattle.batch.specs.Batch.{filled}
+use Rattle.batch_answer.specs.Answer.{filled}
 use Rattle.batch.specs.Batching.{firstRefusal, firstParts}
 use Rattle.batch.proofs.batching.begin.Statement.{statement}
 use Rattle.batch.proofs.batching.begin.Tie as tie

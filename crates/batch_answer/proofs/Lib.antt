@@ -1,0 +1,5 @@
+pub mod Found
+pub mod Filled
+pub mod Orders
+mod Laying
+pub mod Tally

@@ -1,0 +1,51 @@
+// The answer to a batch of lookups, put together from plain numbers: no table, no medium and no search.
+ghost use mathlib.Core.Path.{_≡_};
+ghost use Prim.Native.Nat.{_≤_};
+ghost use lib.Dec.{eqb};
+ghost use Rattle.lists.specs.Below.{nth, someBelow};
+ghost use Rattle.batch_answer.specs.Answer.{refusedBatch};
+
+mod ordering;
+
+pub use ordering::order;
+
+// The answer to a batch of lookups. Refusal 0 is acceptance. `refusals`, `values` and `opened` have for each id, in the ids'
+// order, what its lookup answers, and `order` has the ids' positions in the order of finding; after that each array is 0.
+// `mounts` is the number of servers opened for all ids together.
+pub struct Batch {
+    pub refusal: u32,
+    pub mounts: usize,
+    pub refusals: [u32; 256],
+    pub values: [u32; 256],
+    pub opened: [u32; 256],
+    pub order: [u32; 256],
+}
+
+// The answer to a batch that is refused as a whole.
+pub fn refused_batch(number: u32) -> Batch
+    ensures { λ r. ⌜ r ≡ refusedBatch number ⌝ }
+{
+    Batch {
+        refusal: number,
+        mounts: 0,
+        refusals: [0; 256],
+        values: [0; 256],
+        opened: [0; 256],
+        order: [0; 256],
+    }
+}
+
+// Whether one of the first `n` numbers is `x`.
+pub fn has(numbers: &[u32; 256], n: usize, x: u32) -> bool
+    requires { ⌜ n ≤ 256 ⌝ }
+    ensures { λ r. ⌜ r ≡ someBelow (λ i. eqb (nth (now (numbers .entry)) i) x) n ⌝ }
+{
+    let mut i: usize = 0;
+    while i < n {
+        if numbers[i] == x {
+            return true;
+        }
+        i += 1;
+    }
+    false
+}

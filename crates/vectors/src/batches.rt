@@ -1,0 +1,46 @@
+// Batches of lookups. Five numbers are the ids, and the sixth is a position.
+ghost use Prim.Native.Nat.{_<_};
+use batch_answer::Batch;
+use table::Table;
+
+// The refusal of a batch of 256 times id 2, or of one more.
+fn longest(table: Table, medium: &[u32], over: bool) -> u64 {
+    let ids: [u32; 257] = [2; 257];
+    if over {
+        let batch = batch::lookup_batch(table, medium, &ids);
+        return batch.refusal as u64;
+    }
+    let batch = batch::lookup_batch(table, medium, &ids[..256]);
+    batch.refusal as u64
+}
+
+fn wide(x: u32) -> u64 {
+    x as u64
+}
+
+// 1 is the refusal of the whole batch, 2 its mounts, 4 the refusal at a position, 5 the position that is found at this place.
+fn part(batch: Batch, letter: u8, i: usize) -> u64
+    requires { ⌜ i < 256 ⌝ }
+{
+    match letter {
+        b'1' => batch.refusal as u64,
+        b'2' => batch.mounts as u64,
+        b'4' => wide(batch.refusals[i]),
+        _ => wide(batch.order[i]),
+    }
+}
+
+// 3 is refusal, value and opened count at a position; 6 and 7 are the batches of 256 and of 257 ids.
+pub fn show(table: Table, medium: &[u32], letter: u8, numbers: [u32; 8], text: &[u8]) {
+    if letter >= b'6' {
+        vectors_calls::print_number(text, longest(table, medium, letter == b'7'));
+        return;
+    }
+    let i = (numbers[5] % 256) as usize;
+    let batch = batch::lookup_batch(table, medium, &numbers[..5]);
+    if letter == b'3' {
+        vectors_calls::print_three(text, batch.refusals[i], batch.values[i], batch.opened[i]);
+    } else {
+        vectors_calls::print_number(text, part(batch, letter, i));
+    }
+}

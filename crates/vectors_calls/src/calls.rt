@@ -1,0 +1,122 @@
+// The calls on a table: each prints its reply and hands the table back.
+use crate::print;
+use table::Table;
+
+pub fn start(capacity: u32) -> Table {
+    let started = servers::start(capacity);
+    started.table
+}
+
+// Refusal and capacity.
+fn start_anew(capacity: u32, text: &[u8]) -> Table {
+    let started = servers::start(capacity);
+    let answer = started.answer;
+    let refusal = replies::check_number(answer);
+    print::two(text, refusal, started.table.capacity);
+    started.table
+}
+
+fn add_server(table: Table, medium: &[u32], weight: u32, text: &[u8]) -> Table {
+    let placed = servers::add_server(table, medium, weight);
+    let answer = placed.answer;
+    print::reply(text, replies::server_reply(answer));
+    placed.table
+}
+
+// This many servers of weight 1, with no reply printed.
+fn add_servers(table: Table, medium: &[u32], n: u32) -> Table {
+    let mut next = table;
+    let mut i: u32 = 0;
+    while i < n {
+        let placed = servers::add_server(next, medium, 1);
+        next = placed.table;
+        i += 1;
+    }
+    next
+}
+
+fn reweight(table: Table, server: usize, weight: u32, text: &[u8]) -> Table {
+    let placed = servers::reweight(table, server, weight);
+    let answer = placed.answer;
+    print::reply(text, replies::server_reply(answer));
+    placed.table
+}
+
+fn write(table: Table, medium: &mut [u32], id: u32, value: u32, text: &[u8]) -> Table {
+    let written = writing::write(table, medium, id, value);
+    let answer = written.answer;
+    print::reply(text, replies::write_reply(answer));
+    written.table
+}
+
+fn write_and_forget(table: Table, medium: &mut [u32], id: u32, value: u32, text: &[u8]) -> Table {
+    write(table, medium, id, value, text);
+    table
+}
+
+fn delete(table: Table, medium: &mut [u32], id: u32, text: &[u8]) -> Table {
+    print::reply(
+        text,
+        replies::delete_reply(deletion::delete(table, medium, id)),
+    );
+    table
+}
+
+fn lookup(table: Table, medium: &[u32], id: u32, text: &[u8]) {
+    print::reply(
+        text,
+        replies::lookup_reply(lookup::lookup(table, medium, id)),
+    );
+}
+
+fn wide(x: u32) -> u64 {
+    x as u64
+}
+
+fn show_word(medium: &[u32], i: u32, text: &[u8]) {
+    let at = i as usize;
+    if at < medium.len() {
+        print::print_number(text, wide(medium[at]));
+    }
+}
+
+// Burns a word from outside.
+fn burn(table: Table, medium: &mut [u32], i: u32, word: u32) -> Table {
+    let at = i as usize;
+    if at < medium.len() {
+        medium[at] = word;
+    }
+    table
+}
+
+// A adds servers with no reply printed, V shows a word; the others are the day sheet's letters.
+fn run_reading(table: Table, medium: &[u32], letter: u8, a: u32, b: u32, text: &[u8]) -> Table {
+    match letter {
+        b'S' => return start_anew(a, text),
+        b'F' => return add_server(table, medium, a, text),
+        b'G' => return reweight(table, a as usize, b, text),
+        b'A' => return add_servers(table, medium, a),
+        b'V' => show_word(medium, a, text),
+        b'L' => lookup(table, medium, a, text),
+        _ => {}
+    }
+    table
+}
+
+// X is a write after which the older table is kept, P burns a word from outside; the others are the day sheet's letters.
+pub fn run_call(
+    table: Table,
+    medium: &mut [u32],
+    letter: u8,
+    a: u32,
+    b: u32,
+    text: &[u8],
+) -> Table {
+    match letter {
+        b'W' => write(table, medium, a, b, text),
+        b'X' => write_and_forget(table, medium, a, b, text),
+        b'D' => delete(table, medium, a, text),
+        b'P' => burn(table, medium, a, b),
+        _ => run_reading(table, medium, letter, a, b, text),
+    }
+}

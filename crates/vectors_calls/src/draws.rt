@@ -1,0 +1,58 @@
+// The method on plain numbers: steps, rounds, seeds, draws, picks, and the comparisons at the edges.
+ghost use Prim.Native.Nat.{_≤_};
+use crate::print;
+use placement::Fraction;
+
+// A seed after this many rounds.
+fn rounds(seed: u32, n: u32) -> u32 {
+    let mut s = seed;
+    let mut i: u32 = 0;
+    while i < n {
+        s = placement::round(s);
+        i += 1;
+    }
+    s
+}
+
+// The write server of id 626627286 among three servers of these weights.
+fn picked(first: u32, second: u32, third: u32) -> u64
+    requires { ⌜ (first ≤ 65536) × (second ≤ 65536) × (third ≤ 65536) ⌝ }
+{
+    let mut weights: [u32; 256] = [0; 256];
+    weights[0] = first;
+    weights[1] = second;
+    weights[2] = third;
+    placement::write_server(&weights, 3, 626627286) as u64
+}
+
+// p the step of a server, s the seed and d the draw of an id on a server, r a seed after some rounds, k the pick among three
+// servers of these weights.
+fn number(letter: u8, a: u32, b: u32, c: u32) -> u64 {
+    match letter {
+        b'p' => placement::step((a % 256) as usize) as u64,
+        b's' => placement::seed(a, (b % 256) as usize) as u64,
+        b'd' => placement::draw(a, (b % 256) as usize) as u64,
+        b'r' => rounds(a, b) as u64,
+        _ => picked(a % 65537, b % 65537, c % 65537),
+    }
+}
+
+fn exceeds(num: u32, den: u32, draw: u32) -> bool {
+    placement::exceeds(Fraction { num, den }, draw)
+}
+
+fn at_least(a: u32, b: u32, c: u32, d: u32) -> bool {
+    placement::at_least(Fraction { num: a, den: b }, Fraction { num: c, den: d })
+}
+
+// e whether a fraction exceeds a draw, l whether it is at least another; the others are numbers.
+pub fn show_draw(letter: u8, numbers: [u32; 8], text: &[u8]) {
+    let a = numbers[0];
+    let b = numbers[1];
+    let c = numbers[2];
+    match letter {
+        b'e' => print::test(text, exceeds(a, b, c)),
+        b'l' => print::test(text, at_least(a, b, c, numbers[3])),
+        _ => print::print_number(text, number(letter, a, b, c)),
+    }
+}
