@@ -5,7 +5,7 @@ use mathlib.Core.List.{List}
 use mathlib.Core.Option.{Option, none, some}
 use lib.ListN.{length, replicate}
 use lib.Dec.{leb, eqb}
-use Rattle.limits.specs.Limits.{contentRange}
+use Rattle.limits.specs.Limits.{maxIds, contentRange}
 use Rattle.lists.specs.Below.{nth, highest, setBelow}
 use Rattle.placement.specs.declared.Fraction.{Fraction}
 use Rattle.placement.specs.Draw.{modulus, drawOf}
@@ -54,9 +54,9 @@ progressAt parts i = record { refusal = nth (parts .refusals) i; value = nth (pa
 unfoldable pub firstParts : ℕ → List ℕ → ℕ → Parts
 firstParts number ids n = record {
   refusals = filled (λ i. firstRefusal number (nth ids i)) n;
-  values = replicate 256 0;
-  opened = replicate 256 0;
-  ends = replicate 256 0;
+  values = replicate maxIds 0;
+  opened = replicate maxIds 0;
+  ends = replicate maxIds 0;
 }
 
 -- the first n parts by f, and the rest as they are

@@ -2,6 +2,7 @@
 ghost use mathlib.Core.Path.{_≡_};
 ghost use Prim.Native.Nat.{ℕ, _≤_, _<_};
 ghost use lib.ListN.{length};
+ghost use Rattle.limits.specs.Limits.{maxServers, maxIds};
 ghost use Rattle.lists.specs.Below.{nth, highest};
 ghost use Rattle.medium.specs.Entry.{live, Inside};
 ghost use Rattle.batch.specs.Batch.{batchReply};
@@ -10,6 +11,7 @@ use crate::Newest;
 use crate::Parts;
 use crate::Progress;
 use batch_answer::Batch;
+use limits::MAX_IDS;
 use placement::Fraction;
 use table::Shape;
 use table::Table;
@@ -32,14 +34,14 @@ fn first_refusal(number: u32, id: u32) -> u32
 
 // Every id's part before any server is opened.
 fn begin(ids: &[u32], number: u32) -> Parts
-    requires { ⌜ length (now ids) ≤ 256 ⌝ }
+    requires { ⌜ length (now ids) ≤ maxIds ⌝ }
     ensures { λ r. ⌜ r ≡ firstParts number (now (ids .entry)) (length (now (ids .entry))) ⌝ }
 {
     let mut parts = Parts {
-        refusals: [0; 256],
-        values: [0; 256],
-        opened: [0; 256],
-        ends: [0; 256],
+        refusals: [0; MAX_IDS],
+        values: [0; MAX_IDS],
+        opened: [0; MAX_IDS],
+        ends: [0; MAX_IDS],
     };
     let mut i: usize = 0;
     while i < ids.len() {
@@ -77,7 +79,7 @@ fn step(
 ) -> Progress
     requires { ⌜ Inside capacity server (now medium) ⌝ }
     requires { ⌜ used ≤ capacity ⌝ }
-    requires { ⌜ progress .opened ≤ 256 ⌝ }
+    requires { ⌜ progress .opened ≤ maxServers ⌝ }
     ensures { λ r. ⌜ r ≡ stepped read capacity used (now (medium .entry)) id server progress ⌝ }
 {
     if progress.refusal != 8 {
@@ -120,8 +122,8 @@ fn step_all(
 ) -> Parts
     requires { ⌜ Inside capacity server (now medium) ⌝ }
     requires { ⌜ used ≤ capacity ⌝ }
-    requires { ⌜ length (now ids) ≤ 256 ⌝ }
-    requires { ⌜ ((i : ℕ) → i < length (now ids) → nth (parts .opened) i ≤ 256) ⌝ }
+    requires { ⌜ length (now ids) ≤ maxIds ⌝ }
+    requires { ⌜ ((i : ℕ) → i < length (now ids) → nth (parts .opened) i ≤ maxServers) ⌝ }
     ensures { λ r. ⌜ r ≡ steppedAll read capacity used (now (medium .entry)) (now (ids .entry)) server parts ⌝ }
 {
     let mut next = parts;
@@ -148,7 +150,7 @@ pub fn lookup_batch(table: Table, medium: &[u32], ids: &[u32]) -> Batch
     ensures { λ r. ⌜ r ≡ batchReply table (now (medium .entry)) (now (ids .entry)) ⌝ }
 {
     let n = ids.len();
-    if n > 256 {
+    if n > MAX_IDS {
         return batch_answer::refused_batch(2);
     }
     let number = replies::check_number(checks::ready(

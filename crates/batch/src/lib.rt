@@ -2,6 +2,7 @@
 mod batching;
 
 pub use batching::lookup_batch;
+use limits::MAX_IDS;
 
 // The newest entry of an id on a server: the highest-numbered live one.
 enum Newest {
@@ -20,8 +21,8 @@ struct Progress {
 
 // How far the lookups of all ids are: each array has one number for each id, in the order of the ids.
 struct Parts {
-    pub refusals: [u32; 256],
-    pub values: [u32; 256],
-    pub opened: [u32; 256],
-    pub ends: [u32; 256],
+    pub refusals: [u32; MAX_IDS],
+    pub values: [u32; MAX_IDS],
+    pub opened: [u32; MAX_IDS],
+    pub ends: [u32; MAX_IDS],
 }

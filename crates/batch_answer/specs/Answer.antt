@@ -8,6 +8,7 @@ use mathlib.Core.List.{List, [], _∷_, _++_, List·Memᴰ}
 use lib.ListN.{length, replicate}
 use lib.Seq.{sets}
 use lib.Dec.{ltb, eqb}
+use Rattle.limits.specs.Limits.{maxIds}
 use Rattle.lists.specs.Below.{someBelow, upward, countBelow, setBelow}
 use Rattle.replies.specs.Refusal.{Row, _when_, firstOf, settle}
 use Rattle.batch_answer.specs.declared.Batch.{Batch}
@@ -51,7 +52,7 @@ pub record Before (i j : ℕ) (xs : List ℕ) : Type 0 where
 
 -- an array of 256 numbers: f i below n, and 0 from there on
 unfoldable pub filled : (ℕ → ℕ) → ℕ → List ℕ
-filled f n = setBelow f n (replicate 256 0)
+filled f n = setBelow f n (replicate maxIds 0)
 
 -- the answer to n ids: refusal, value and opened count by position, and which servers are opened for which
 unfoldable pub batchBy : (ℕ → ℕ) → (ℕ → ℕ) → (ℕ → ℕ) → (ℕ → ℕ → Bool) → ℕ → ℕ → Batch
@@ -61,7 +62,7 @@ batchBy refusal value number opened n count = record {
   refusals = filled refusal n;
   values = filled value n;
   opened = filled number n;
-  order = sets (replicate 256 0) 0 (order opened n count);
+  order = sets (replicate maxIds 0) 0 (order opened n count);
 }
 
 -- the answer to a list that is refused as a whole: no id is answered
@@ -69,15 +70,15 @@ abbrev pub refusedBatch : ℕ → Batch
 refusedBatch number = record {
   refusal = number;
   mounts = 0;
-  refusals = replicate 256 0;
-  values = replicate 256 0;
-  opened = replicate 256 0;
-  order = replicate 256 0;
+  refusals = replicate maxIds 0;
+  values = replicate maxIds 0;
+  opened = replicate maxIds 0;
+  order = replicate maxIds 0;
 }
 
 -- a list of more than 256 ids is out of range; every other one is answered id by id
 unfoldable pub batchRows : List ℕ → List Row
-batchRows ids = 2 when ltb 256 (length ids) ∷ []
+batchRows ids = 2 when ltb maxIds (length ids) ∷ []
 
 unfoldable pub settledBatch : List ℕ → Batch → Batch
 settledBatch ids done = settle (batchRows ids) done (refusedBatch (firstOf (batchRows ids)))

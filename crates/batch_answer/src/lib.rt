@@ -1,12 +1,13 @@
 // The answer to a batch of lookups, put together from plain numbers: no table, no medium and no search.
+mod ordering;
+
 ghost use mathlib.Core.Path.{_≡_};
 ghost use Prim.Native.Nat.{_≤_};
 ghost use lib.Dec.{eqb};
+ghost use Rattle.limits.specs.Limits.{maxIds};
 ghost use Rattle.lists.specs.Below.{nth, someBelow};
 ghost use Rattle.batch_answer.specs.Answer.{refusedBatch};
-
-mod ordering;
-
+use limits::MAX_IDS;
 pub use ordering::order;
 
 // The answer to a batch of lookups. Refusal 0 is acceptance. `refusals`, `values` and `opened` have for each id, in the ids'
@@ -15,10 +16,10 @@ pub use ordering::order;
 pub struct Batch {
     pub refusal: u32,
     pub mounts: usize,
-    pub refusals: [u32; 256],
-    pub values: [u32; 256],
-    pub opened: [u32; 256],
-    pub order: [u32; 256],
+    pub refusals: [u32; MAX_IDS],
+    pub values: [u32; MAX_IDS],
+    pub opened: [u32; MAX_IDS],
+    pub order: [u32; MAX_IDS],
 }
 
 // The answer to a batch that is refused as a whole.
@@ -28,16 +29,16 @@ pub fn refused_batch(number: u32) -> Batch
     Batch {
         refusal: number,
         mounts: 0,
-        refusals: [0; 256],
-        values: [0; 256],
-        opened: [0; 256],
-        order: [0; 256],
+        refusals: [0; MAX_IDS],
+        values: [0; MAX_IDS],
+        opened: [0; MAX_IDS],
+        order: [0; MAX_IDS],
     }
 }
 
 // Whether one of the first `n` numbers is `x`.
-pub fn has(numbers: &[u32; 256], n: usize, x: u32) -> bool
-    requires { ⌜ n ≤ 256 ⌝ }
+pub fn has(numbers: &[u32; MAX_IDS], n: usize, x: u32) -> bool
+    requires { ⌜ n ≤ maxIds ⌝ }
     ensures { λ r. ⌜ r ≡ someBelow (λ i. eqb (nth (now (numbers .entry)) i) x) n ⌝ }
 {
     let mut i: usize = 0;

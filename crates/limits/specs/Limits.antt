@@ -13,6 +13,10 @@ maxCapacity = 65536
 abbrev pub maxSum : ℕ
 maxSum = 16777216
 
+-- ids of a batch
+abbrev pub maxIds : ℕ
+maxIds = 256
+
 -- 2^30: ids and values are below it, and so is the content of a word, which has 30 bits
 abbrev pub contentRange : ℕ
 contentRange = 1073741824

@@ -9,6 +9,9 @@ pub const MAX_CAPACITY: u32 = 65536;
 // 2^24, the sum of 256 weights of 65,536 each, and so the greatest denominator of a fraction.
 pub const MAX_SUM: u32 = 16777216;
 
+// Ids of a batch.
+pub const MAX_IDS: usize = 256;
+
 // 2^30: ids and values are below it, and so is the content of a word, which has 30 bits.
 pub const CONTENT_RANGE: u32 = 1073741824;
 
