@@ -45,7 +45,7 @@ fn run_start(in_use: InUse, medium: &mut [u32], capacity: u32, out: &mut [u8], a
     let begun = servers::start(capacity);
     let answer = begun.answer;
     let reply = replies::start_reply(answer);
-    let next = text::put_answer(out, at, 83, reply.refusal, 0, 0);
+    let next = text::put_answer(out, at, text::START, reply.refusal, 0, 0);
     if reply.refusal != 0 {
         return Ran { next, in_use };
     }
@@ -65,21 +65,21 @@ fn run_call(
     in_use: InUse,
     medium: &mut [u32],
     number: u32,
-    first: u32,
-    second: u32,
+    subject: u32,
+    amount: u32,
     out: &mut [u8],
     at: usize,
 ) -> Ran
     requires { ⌜ at + 35 ≤ length (now out) ⌝ }
-    ensures next { λ r. ⌜ r .next ≡ at + length (lineRun (sheetOf in_use (now (medium .entry))) (line.Call number first second) .bytes) ⌝ }
-    ensures bytes { λ _. ⌜ now (out .exit) ≡ sets (now (out .entry)) at (lineRun (sheetOf in_use (now (medium .entry))) (line.Call number first second) .bytes) ⌝ }
-    ensures sheet { λ r. ⌜ sheetOf (r .in_use) (now (medium .exit)) ≡ lineRun (sheetOf in_use (now (medium .entry))) (line.Call number first second) .sheet ⌝ }
+    ensures next { λ r. ⌜ r .next ≡ at + length (lineRun (sheetOf in_use (now (medium .entry))) (line.Call number subject amount) .bytes) ⌝ }
+    ensures bytes { λ _. ⌜ now (out .exit) ≡ sets (now (out .entry)) at (lineRun (sheetOf in_use (now (medium .entry))) (line.Call number subject amount) .bytes) ⌝ }
+    ensures sheet { λ r. ⌜ sheetOf (r .in_use) (now (medium .exit)) ≡ lineRun (sheetOf in_use (now (medium .entry))) (line.Call number subject amount) .sheet ⌝ }
 {
     if !in_use.started {
         return ask(in_use, out, at);
     }
     let table = in_use.table;
-    let ran = replay::run_call(table, medium, number, first, second);
+    let ran = replay::run_call(table, medium, number, subject, amount);
     let next = text::put_reply(out, at, number, ran.reply);
     let after = ran.table;
     Ran {
@@ -100,12 +100,12 @@ fn run_read(in_use: InUse, medium: &mut [u32], line: Line, out: &mut [u8], at: u
 {
     match line {
         Line::Start(capacity) => run_start(in_use, medium, capacity, out, at),
-        Line::Call(number, first, second) => run_call(
+        Line::Call(number, subject, amount) => run_call(
             in_use,
             medium,
             number,
-            first,
-            second,
+            subject,
+            amount,
             out,
             at,
         ),

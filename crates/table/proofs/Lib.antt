@@ -1,4 +1,5 @@
 pub mod Upkeep
 pub mod Soundness
 pub mod Agreement
+pub mod Lent
 mod Raising

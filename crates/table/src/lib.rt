@@ -1,10 +1,15 @@
 // The table of servers, by value: whether it is sound, an empty one, and the tables that calls make of it.
+mod words;
+
 ghost use mathlib.Core.Path.{_≡_};
 ghost use mathlib.Core.Bool.{true};
 ghost use Prim.Native.Nat.{_<_, _≤_};
 ghost use Rattle.table.specs.Sound.{tableOf, readSound, sound};
 ghost use Rattle.table.specs.Upkeep.{empty, withServer, withWeight, withEntry};
 use placement::Fraction;
+pub use words::TABLE_LENGTH;
+pub use words::store_table;
+pub use words::table_from;
 
 // Document 01's table: capacity is its E, the entries of a server; count its count of fitted shelves; the four arrays
 // have for each server its weight, the entries used, and ReadP as a pair. Positions at or above the count mean nothing.

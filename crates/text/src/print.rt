@@ -4,7 +4,13 @@ ghost use Prim.Native.Nat.{_<_, _≤_, _+_};
 ghost use lib.ListN.{length};
 ghost use lib.Seq.{sets};
 ghost use Rattle.text.specs.Print.{decimal, printed, question, answered};
+use crate::letters::letter_of;
+use replies::ADD_SERVER;
+use replies::DELETE;
+use replies::LOOKUP;
+use replies::REWEIGHT;
 use replies::Reply;
+use replies::WRITE;
 
 // A number without leading zeros.
 fn put_number(out: &mut [u8], at: usize, x: u32) -> usize
@@ -55,12 +61,13 @@ pub fn put_reply(out: &mut [u8], at: usize, number: u32, reply: Reply) -> usize
     let refusal = reply.refusal;
     let server = reply.server as u32;
     let invalidated = reply.invalidated as u32;
+    let letter = letter_of(number);
     match number {
-        1 => put_answer(out, at, 70, refusal, server, 0),
-        2 => put_answer(out, at, 71, refusal, server, 0),
-        3 => put_answer(out, at, 87, refusal, server, invalidated),
-        4 => put_answer(out, at, 68, refusal, invalidated, 0),
-        5 => put_answer(out, at, 76, refusal, reply.value, reply.opened as u32),
+        ADD_SERVER => put_answer(out, at, letter, refusal, server, 0),
+        REWEIGHT => put_answer(out, at, letter, refusal, server, 0),
+        WRITE => put_answer(out, at, letter, refusal, server, invalidated),
+        DELETE => put_answer(out, at, letter, refusal, invalidated, 0),
+        LOOKUP => put_answer(out, at, letter, refusal, reply.value, reply.opened as u32),
         _ => put_question(out, at),
     }
 }
