@@ -1,11 +1,24 @@
 //! Calls and replies as words, and lists of them run on the Rust implementation. The layout is
-//! that of the proved functions: three words a call, five a reply, 1,026 a table.
+//! that of the proved functions: eight words a call, eight a reply, 1,026 a table.
 
 use crate::archive::{Missed, Refusal, Table};
 use crate::placement::MAX_SERVERS;
 
-pub const CALL_WORDS: usize = 3;
-pub const REPLY_WORDS: usize = 5;
+/// A call's words: its number, an id or a server, and a value or a weight. The other five are
+/// not read.
+pub const CALL_WORDS: usize = 8;
+const NUMBER: usize = 0;
+const SUBJECT: usize = 2;
+const AMOUNT: usize = 3;
+
+/// A reply's words; the other three are 0.
+pub const REPLY_WORDS: usize = 8;
+pub const REFUSAL: usize = 0;
+const SERVER: usize = 1;
+const VALUE: usize = 2;
+const OPENED: usize = 4;
+pub const INVALIDATED: usize = 5;
+
 pub const TABLE_WORDS: usize = 2 + 4 * MAX_SERVERS;
 
 #[derive(Clone, Copy, Debug, PartialEq, Eq)]
@@ -34,38 +47,53 @@ pub enum Call {
 }
 
 impl Call {
-    pub fn words(self) -> [u32; CALL_WORDS] {
+    /// Its number, and the subject and the amount if it has them.
+    fn parts(self) -> (u32, Option<u32>, Option<u32>) {
         match self {
-            Call::AddServer { weight } => [1, weight, 0],
-            Call::Reweight { server, weight } => [2, server, weight],
-            Call::Write { id, value } => [3, id, value],
-            Call::Delete { id } => [4, id, 0],
-            Call::Lookup { id } => [5, id, 0],
-            Call::None { number } => [number, 0, 0],
+            Call::AddServer { weight } => (1, None, Some(weight)),
+            Call::Reweight { server, weight } => (2, Some(server), Some(weight)),
+            Call::Write { id, value } => (3, Some(id), Some(value)),
+            Call::Delete { id } => (4, Some(id), None),
+            Call::Lookup { id } => (5, Some(id), None),
+            Call::None { number } => (number, None, None),
         }
     }
 
-    pub fn from_words([number, first, second]: [u32; CALL_WORDS]) -> Self {
+    /// Its words; those that it does not read are `unread`.
+    pub fn words(self, unread: u32) -> [u32; CALL_WORDS] {
+        let (number, subject, amount) = self.parts();
+        let mut words = [unread; CALL_WORDS];
+        words[NUMBER] = number;
+        words[SUBJECT] = subject.unwrap_or(unread);
+        words[AMOUNT] = amount.unwrap_or(unread);
+        words
+    }
+
+    pub fn from_words(words: [u32; CALL_WORDS]) -> Self {
+        Self::from_parts(words[NUMBER], words[SUBJECT], words[AMOUNT])
+    }
+
+    pub fn from_parts(number: u32, subject: u32, amount: u32) -> Self {
         match number {
-            1 => Call::AddServer { weight: first },
+            1 => Call::AddServer { weight: amount },
             2 => Call::Reweight {
-                server: first,
-                weight: second,
+                server: subject,
+                weight: amount,
             },
             3 => Call::Write {
-                id: first,
-                value: second,
+                id: subject,
+                value: amount,
             },
-            4 => Call::Delete { id: first },
-            5 => Call::Lookup { id: first },
+            4 => Call::Delete { id: subject },
+            5 => Call::Lookup { id: subject },
             _ => Call::None { number },
         }
     }
 }
 
-/// The words of a list.
-pub fn encode(list: &[Call]) -> Vec<u32> {
-    list.iter().flat_map(|call| call.words()).collect()
+/// The words of a list; those that a call does not read are `unread`.
+pub fn encode(list: &[Call], unread: u32) -> Vec<u32> {
+    list.iter().flat_map(|call| call.words(unread)).collect()
 }
 
 /// A refusal number or 0, and what the answer carries; the rest is 0.
@@ -95,13 +123,13 @@ impl Reply {
     }
 
     pub fn words(self) -> [u32; REPLY_WORDS] {
-        [
-            self.refusal,
-            self.server,
-            self.value,
-            self.opened,
-            self.invalidated,
-        ]
+        let mut words = [0; REPLY_WORDS];
+        words[REFUSAL] = self.refusal;
+        words[SERVER] = self.server;
+        words[VALUE] = self.value;
+        words[OPENED] = self.opened;
+        words[INVALIDATED] = self.invalidated;
+        words
     }
 }
 

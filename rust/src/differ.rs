@@ -4,7 +4,7 @@
 use std::fmt::Write;
 
 use crate::archive::{Table, BLANK};
-use crate::calls::{self, Call, REPLY_WORDS, TABLE_WORDS};
+use crate::calls::{self, Call, INVALIDATED, REFUSAL, REPLY_WORDS, TABLE_WORDS};
 use crate::ledger::Ledger;
 use crate::placement::{self, MAX_SERVERS};
 use crate::proved;
@@ -28,7 +28,7 @@ impl Tally {
         self.lists += 1;
         for reply in replies.chunks_exact(REPLY_WORDS) {
             self.calls += 1;
-            match reply[0] {
+            match reply[REFUSAL] {
                 0 => self.accepted += 1,
                 number @ 1..=10 => self.refusals[number as usize] += 1,
                 _ => self.no_calls += 1,
@@ -39,6 +39,9 @@ impl Tally {
 
 /// Buffers hold this before a run, so that a word which should not be stored shows.
 const UNSTORED: u32 = 0x5555_5555;
+
+/// Words that a call should not read hold this.
+const UNREAD: u32 = 0x3333_3333;
 
 /// What one side left.
 struct Outcome {
@@ -63,7 +66,7 @@ pub struct Encoded {
 impl Encoded {
     pub fn new(list: &[Call]) -> Self {
         Encoded {
-            words: calls::encode(list),
+            words: calls::encode(list, UNREAD),
             room: list.len() * REPLY_WORDS,
         }
     }
@@ -207,8 +210,9 @@ pub fn run_blank(
 fn compare_ledger(ledger: &mut Ledger, list: &[Call], replies: &[u32]) -> Result<(), Difference> {
     let replies = replies.chunks_exact(REPLY_WORDS);
     for (at, (&call, reply)) in list.iter().zip(replies).enumerate() {
-        let expected = ledger.enter(call).words();
-        if reply[..REPLY_WORDS - 1] != expected[..REPLY_WORDS - 1] {
+        let mut expected = ledger.enter(call).words();
+        expected[INVALIDATED] = reply[INVALIDATED];
+        if *reply != expected {
             return Err(format!(
                 "call {at}, {call:?}: proved {reply:?}, ledger {expected:?}"
             ));

@@ -1,7 +1,7 @@
 //! What is measured: inputs that both sides run alike.
 
 use crate::archive::{Table, BLANK, CONTENT_RANGE};
-use crate::calls::{self, encode, Call, REPLY_WORDS};
+use crate::calls::{self, encode, Call, REFUSAL, REPLY_WORDS};
 use crate::placement::{self, write_server, MAX_CAPACITY};
 use crate::proved;
 use crate::random::Random;
@@ -41,7 +41,7 @@ impl Scene {
     fn replay(capacity: u32, medium_len: usize, list: &[Call]) -> Self {
         let work = Work::Replay {
             capacity,
-            calls: encode(list),
+            calls: encode(list, 0),
         };
         let answers = list.len() * REPLY_WORDS;
         Scene::new(work, vec![BLANK; medium_len], answers, list.len())
@@ -50,7 +50,7 @@ impl Scene {
     fn resume(table: &Table, medium: Vec<u32>, list: &[Call]) -> Self {
         let work = Work::Resume {
             table: table.words().to_vec(),
-            calls: encode(list),
+            calls: encode(list, 0),
         };
         Scene::new(work, medium, list.len() * REPLY_WORDS, list.len())
     }
@@ -114,7 +114,7 @@ impl Scene {
             return 0;
         }
         let replies = self.answers.chunks_exact(REPLY_WORDS);
-        replies.filter(|reply| reply[0] != 0).count()
+        replies.filter(|reply| reply[REFUSAL] != 0).count()
     }
 }
 

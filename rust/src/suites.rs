@@ -194,12 +194,9 @@ fn edges(random: &mut Random, tally: &mut Tally) -> Result<(), Difference> {
     let slack = random.below(3) as usize;
     let medium = vec![BLANK; 3 * capacity.min(65_537) as usize * servers + slack];
     let list: Vec<Call> = (0..1_000)
-        .map(|_| {
-            let words = [random.below(7), random.pick(&EDGES), random.pick(&EDGES)];
-            Call::from_words(words)
-        })
+        .map(|_| Call::from_parts(random.below(7), random.pick(&EDGES), random.pick(&EDGES)))
         .collect();
-    let cut = [random.below(8) as usize, random.below(12) as usize];
+    let cut = [random.below(18) as usize, random.below(18) as usize];
     let encoded = Encoded::new(&list).cut(cut[0], cut[1]);
     run_replay(capacity, &medium, &list, &encoded, tally)?;
     table_lengths(random, tally)?;

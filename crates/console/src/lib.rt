@@ -5,23 +5,29 @@ use libc::STDIN_FILENO;
 use libc::STDOUT_FILENO;
 
 // One byte more than a sheet may have.
-fn input_space() -> [u8; 65537]
+const INPUT: usize = sheet::MAX_INPUT + 1;
+
+const WORDS: usize = 3072;
+
+// As much as a line prints at most, for each byte of the input.
+const OUTPUT: usize = text::LONGEST_LINE * INPUT;
+
+fn input_space() -> [u8; INPUT]
     ensures { λ r. ⌜ 65537 ≡ length r ⌝ }
 {
-    [0; 65537]
+    [0; INPUT]
 }
 
-fn words() -> [u32; 3072]
+fn words() -> [u32; WORDS]
     ensures { λ r. ⌜ 3072 ≡ length r ⌝ }
 {
-    [medium::BLANK; 3072]
+    [medium::BLANK; WORDS]
 }
 
-// 35 bytes for each byte of the input.
-fn output_space() -> [u8; 2293795]
+fn output_space() -> [u8; OUTPUT]
     ensures { λ r. ⌜ 2293795 ≡ length r ⌝ }
 {
-    [0; 2293795]
+    [0; OUTPUT]
 }
 
 pub fn run() {

@@ -7,7 +7,7 @@ use mathlib.Core.List.{List, [], _∷_}
 use mathlib.Core.Option.{Option, none, some}
 use native.Mathlib.Numerals.{add-one}
 use native.Mathlib.Omega.{arith}
-use lib.ListN.{length, set, length-set}
+use lib.ListN.{length, set, replicate, length-set}
 use lib.Seq.{getD-set-same, getD-set-other}
 use lib.Dec.{eqb}
 use borrow.Author.Tests.{eqb-true, eqb-false, ne-eqb}
@@ -19,6 +19,7 @@ use Rattle.table.specs.declared.Table.{Table}
 use Rattle.table.specs.Parts.{usedOf}
 use Rattle.upkeep.specs.Upkeep.{withEntry}
 use Rattle.table.proofs.Soundness.{sound-facts}
+use Rattle.replies.specs.Number.{addServerNumber, reweightNumber, writeNumber, deleteNumber, lookupNumber}
 use Rattle.replies.specs.Refusal.{firstOf}
 use Rattle.replies.specs.declared.Refusal.{Refusal}
 use Rattle.replies.specs.declared.Check.{Check}
@@ -36,7 +37,8 @@ use Rattle.history.specs.Machine.{State, reply, next, after, begin}
 use Rattle.history.specs.Ledger.{opening, ledgerAfter}
 use Rattle.history.proofs.Unaltered.{after-append}
 use Rattle.history.proofs.Run.{begin-agrees, step, run}
-use Rattle.replay.specs.Replay.{callOf, callAt, appended, callsBelow, replyTo, nextBy, ledgerReplyTo, usedAfter, withReply, withReplies, roomFor, runs, started, replyAt, ledgerReplyAt, LedgerWords}
+use Rattle.replay.specs.Encoding.{callLength, numberOffset, subjectOffset, amountOffset, replyLength, refusalOffset, serverOffset, valueOffset, highOffset, openedOffset, invalidatedOffset, spareOffset, lastOffset}
+use Rattle.replay.specs.Replay.{callOf, callAt, replyWord, appended, callsBelow, replyTo, nextBy, ledgerReplyTo, usedAfter, withReply, replyFrom, withReplies, roomFor, runs, started, replyAt, ledgerReplyAt, LedgerWords}
 
 -- the reply, the table and the medium of one call
 abbrev pub Called : State → Option Call → Reply → Table → List ℕ → Type 0
@@ -48,9 +50,9 @@ pub called-as : (S : State) (o : Option Call) {r r′ : Reply} {table table′ :
 called-as S o x y z c = (x ∙ c .0, (y ∙ c .1 .0, z ∙ c .1 .1))
 
 -- a number that is no call
-pub no-call : (number first second : ℕ) → number ≢ 1 → number ≢ 2 → number ≢ 3 → number ≢ 4 → number ≢ 5 → callOf number first second ≡ none
+pub no-call : (number subject amount : ℕ) → number ≢ addServerNumber → number ≢ reweightNumber → number ≢ writeNumber → number ≢ deleteNumber → number ≢ lookupNumber → callOf number subject amount ≡ none
 unfolding callOf
-no-call number first second a b c d e = rw (ne-eqb number 1 a, ne-eqb number 2 b, ne-eqb number 3 c, ne-eqb number 4 d, ne-eqb number 5 e)
+no-call number subject amount a b c d e = rw (ne-eqb number addServerNumber a, ne-eqb number reweightNumber b, ne-eqb number writeNumber c, ne-eqb number deleteNumber d, ne-eqb number lookupNumber e)
 
 -- a table with other used entries
 abbrev pub withUsed : Table → List ℕ → Table
@@ -63,45 +65,45 @@ withUsed t used = record {
   denominators = t .denominators;
 }
 
-module _ (S : State) (number first second : ℕ) where
-  -- the table after call 3, and after one from 4 on or none
-  written-table : number ≡ 3 → writeTable (S .table) (S .medium) first second ≡ nextBy S (callOf number first second) .table
+module _ (S : State) (number subject amount : ℕ) where
+  -- the table after a write, and after delete, lookup or no call
+  written-table : number ≡ writeNumber → writeTable (S .table) (S .medium) subject amount ≡ nextBy S (callOf number subject amount) .table
   unfolding callOf nextBy next
   written-table d = rw d
 
-  same-table : number ≢ 1 → number ≢ 2 → number ≢ 3 → nextBy S (callOf number first second) .table ≡ S .table
+  same-table : number ≢ addServerNumber → number ≢ reweightNumber → number ≢ writeNumber → nextBy S (callOf number subject amount) .table ≡ S .table
   unfolding callOf nextBy next
-  same-table a b c = rw (ne-eqb number 1 a, ne-eqb number 2 b, ne-eqb number 3 c)
-      (byBool (eqb number 4) (λ d. rw d) (λ d. rw d (byBool (eqb number 5) (λ d. rw d) (λ d. rw d))))
+  same-table a b c = rw (ne-eqb number addServerNumber a, ne-eqb number reweightNumber b, ne-eqb number writeNumber c)
+      (byBool (eqb number deleteNumber) (λ d. rw d) (λ d. rw d (byBool (eqb number lookupNumber) (λ d. rw d) (λ d. rw d))))
 
   -- by its reply: whether and where an entry is counted, and the table with it
-  module _ (r : Reply) (e : r ≡ replyTo S (callOf number first second)) where
-    written-here : number ≡ 3 → r ≡ writeReply (S .table) (S .medium) first second
+  module _ (r : Reply) (e : r ≡ replyTo S (callOf number subject amount)) where
+    written-here : number ≡ writeNumber → r ≡ writeReply (S .table) (S .medium) subject amount
     unfolding callOf replyTo reply
     written-here d = e ∙ rw d
 
-    filed-here : number ≡ 3 → r .refusal ≡ 0 → Filed (S .table) (S .medium) first second (r .server)
-    filed-here d z = filed (S .table) (S .medium) first second r (written-here d) z
+    filed-here : number ≡ writeNumber → r .refusal ≡ 0 → Filed (S .table) (S .medium) subject amount (r .server)
+    filed-here d z = filed (S .table) (S .medium) subject amount r (written-here d) z
 
-    pub counts : number ≡ 3 → r .refusal ≡ 0 → (r .server < 256) × (usedOf (S .table) (r .server) < 65536)
+    pub counts : number ≡ writeNumber → r .refusal ≡ 0 → (r .server < 256) × (usedOf (S .table) (r .server) < 65536)
     counts d z =
         let f = filed-here d z in
         let s = sound-facts (S .table) (f .isSound) in
         (omega arith, omega arith)
 
-    counted : (used : List ℕ) → number ≢ 1 → number ≢ 2 → used ≡ usedAfter (S .table .used) number r
-        → withUsed (S .table) used ≡ nextBy S (callOf number first second) .table
+    counted : (used : List ℕ) → number ≢ addServerNumber → number ≢ reweightNumber → used ≡ usedAfter (S .table .used) number r
+        → withUsed (S .table) used ≡ nextBy S (callOf number subject amount) .table
     unfolding usedAfter withEntry
-    counted used a b u = ap (withUsed (S .table)) u ∙ byBool (eqb number 3)
+    counted used a b u = ap (withUsed (S .table)) u ∙ byBool (eqb number writeNumber)
         (λ d.
-        let is = eqb-true number 3 d in
+        let is = eqb-true number writeNumber d in
         rw d (byBool (eqb (r .refusal) 0)
         (λ z. rw z (filed-here is (eqb-true (r .refusal) 0 z) .table ∙ written-table is))
-        (λ z. rw z (table-kept (S .table) (S .medium) first second r (written-here is) (eqb-false (r .refusal) 0 z) ∙ written-table is))))
-        (λ d. rw d (sym (same-table a b (eqb-false number 3 d))))
+        (λ z. rw z (table-kept (S .table) (S .medium) subject amount r (written-here is) (eqb-false (r .refusal) 0 z) ∙ written-table is))))
+        (λ d. rw d (sym (same-table a b (eqb-false number writeNumber d))))
 
-    pub called-in : (used medium : List ℕ) → number ≢ 1 → number ≢ 2 → used ≡ usedAfter (S .table .used) number r
-        → medium ≡ nextBy S (callOf number first second) .medium → Called S (callOf number first second) r (withUsed (S .table) used) medium
+    pub called-in : (used medium : List ℕ) → number ≢ addServerNumber → number ≢ reweightNumber → used ≡ usedAfter (S .table .used) number r
+        → medium ≡ nextBy S (callOf number subject amount) .medium → Called S (callOf number subject amount) r (withUsed (S .table) used) medium
     called-in used medium a b u d = (e, (counted used a b u, d))
 
 -- what the code stores of its reply as a cast fits a word
@@ -134,52 +136,71 @@ replies-more f i words = rw add-one
 
 -- the words of reply i that are compared
 record Stored (words : List ℕ) (i : ℕ) (r : Reply) : Type 0 where
-  refusal : nth words (5 * i) ≡ r .refusal
-  server : nth words (5 * i + 1) ≡ r .server
-  value : nth words (5 * i + 2) ≡ r .value
-  opened : nth words (5 * i + 3) ≡ r .opened
+  refusal : replyWord words i refusalOffset ≡ r .refusal
+  server : replyWord words i serverOffset ≡ r .server
+  value : replyWord words i valueOffset ≡ r .value
+  opened : replyWord words i openedOffset ≡ r .opened
 
--- a reply's five words
+-- a reply's eight words
 module _ (words : List ℕ) (n : ℕ) (r : Reply) where
   length-withReply : length (withReply words n r) ≡ length words
   unfolding withReply
   length-withReply = simp length-set
 
-  -- the first of them, the first two, three and four; a word below the next is as they leave it
+  -- where they begin; the words with the first of them, the first two and so on
+  abbrev from : ℕ
+  from = replyLength * n
+
   abbrev w₁ : List ℕ
-  w₁ = set words (5 * n) (r .refusal)
+  w₁ = set words (from + refusalOffset) (r .refusal)
 
   abbrev w₂ : List ℕ
-  w₂ = set w₁ (5 * n + 1) (r .server)
+  w₂ = set w₁ (from + serverOffset) (r .server)
 
   abbrev w₃ : List ℕ
-  w₃ = set w₂ (5 * n + 2) (r .value)
+  w₃ = set w₂ (from + valueOffset) (r .value)
 
   abbrev w₄ : List ℕ
-  w₄ = set w₃ (5 * n + 3) (r .opened)
+  w₄ = set w₃ (from + highOffset) 0
 
-  below₄ : (a : ℕ) → a < 5 * n + 4 → nth (withReply words n r) a ≡ nth w₄ a
+  abbrev w₅ : List ℕ
+  w₅ = set w₄ (from + openedOffset) (r .opened)
+
+  abbrev w₆ : List ℕ
+  w₆ = set w₅ (from + invalidatedOffset) (r .invalidated)
+
+  abbrev w₇ : List ℕ
+  w₇ = set w₆ (from + spareOffset) 0
+
+  -- a word below the next is as they leave it
+  below₅ : (a : ℕ) → a < from + invalidatedOffset → nth (withReply words n r) a ≡ nth w₅ a
   unfolding withReply
-  below₄ a l = getD-set-other w₄ (5 * n + 4) a (r .invalidated) 0 (λ e. omega arith)
+  below₅ a l =
+      getD-set-other w₇ (from + lastOffset) a 0 0 (λ e. omega arith)
+      ∙ getD-set-other w₆ (from + spareOffset) a 0 0 (λ e. omega arith)
+      ∙ getD-set-other w₅ (from + invalidatedOffset) a (r .invalidated) 0 (λ e. omega arith)
 
-  below₃ : (a : ℕ) → a < 5 * n + 3 → nth (withReply words n r) a ≡ nth w₃ a
-  below₃ a l = below₄ a (omega arith) ∙ getD-set-other w₃ (5 * n + 3) a (r .opened) 0 (λ e. omega arith)
+  below₃ : (a : ℕ) → a < from + highOffset → nth (withReply words n r) a ≡ nth w₃ a
+  below₃ a l =
+      below₅ a (omega arith)
+      ∙ getD-set-other w₄ (from + openedOffset) a (r .opened) 0 (λ e. omega arith)
+      ∙ getD-set-other w₃ (from + highOffset) a 0 0 (λ e. omega arith)
 
-  below₂ : (a : ℕ) → a < 5 * n + 2 → nth (withReply words n r) a ≡ nth w₂ a
-  below₂ a l = below₃ a (omega arith) ∙ getD-set-other w₂ (5 * n + 2) a (r .value) 0 (λ e. omega arith)
+  below₂ : (a : ℕ) → a < from + valueOffset → nth (withReply words n r) a ≡ nth w₂ a
+  below₂ a l = below₃ a (omega arith) ∙ getD-set-other w₂ (from + valueOffset) a (r .value) 0 (λ e. omega arith)
 
-  below₁ : (a : ℕ) → a < 5 * n + 1 → nth (withReply words n r) a ≡ nth w₁ a
-  below₁ a l = below₂ a (omega arith) ∙ getD-set-other w₁ (5 * n + 1) a (r .server) 0 (λ e. omega arith)
+  below₁ : (a : ℕ) → a < from + serverOffset → nth (withReply words n r) a ≡ nth w₁ a
+  below₁ a l = below₂ a (omega arith) ∙ getD-set-other w₁ (from + serverOffset) a (r .server) 0 (λ e. omega arith)
 
-  below₀ : (a : ℕ) → a < 5 * n → nth (withReply words n r) a ≡ nth words a
-  below₀ a l = below₁ a (omega arith) ∙ getD-set-other words (5 * n) a (r .refusal) 0 (λ e. omega arith)
+  below₀ : (a : ℕ) → a < from → nth (withReply words n r) a ≡ nth words a
+  below₀ a l = below₁ a (omega arith) ∙ getD-set-other words (from + refusalOffset) a (r .refusal) 0 (λ e. omega arith)
 
-  stored-here : 5 * n + 5 ≤ length words → Stored (withReply words n r) n r
+  stored-here : from + replyLength ≤ length words → Stored (withReply words n r) n r
   stored-here fits = record {
-    refusal = below₁ _ (omega arith) ∙ getD-set-same words (5 * n) (r .refusal) 0 (omega arith);
-    server = below₂ _ (omega arith) ∙ getD-set-same w₁ (5 * n + 1) (r .server) 0 (simp length-set (omega arith));
-    value = below₃ _ (omega arith) ∙ getD-set-same w₂ (5 * n + 2) (r .value) 0 (simp length-set (omega arith));
-    opened = below₄ _ (omega arith) ∙ getD-set-same w₃ (5 * n + 3) (r .opened) 0 (simp length-set (omega arith));
+    refusal = below₁ _ (omega arith) ∙ getD-set-same words (from + refusalOffset) (r .refusal) 0 (omega arith);
+    server = below₂ _ (omega arith) ∙ getD-set-same w₁ (from + serverOffset) (r .server) 0 (simp length-set (omega arith));
+    value = below₃ _ (omega arith) ∙ getD-set-same w₂ (from + valueOffset) (r .value) 0 (simp length-set (omega arith));
+    opened = below₅ _ (omega arith) ∙ getD-set-same w₄ (from + openedOffset) (r .opened) 0 (simp length-set (omega arith));
   }
 
   stored-below : (i : ℕ) (q : Reply) → i < n → Stored words i q → Stored (withReply words n r) i q
@@ -196,7 +217,7 @@ module _ (f : ℕ → Reply) (words : List ℕ) where
   length-withReplies zero = refl
   length-withReplies (suc n) = length-withReply (withReplies f n words) n (f n) ∙ length-withReplies n
 
-  stored-all : (n : ℕ) → 5 * n ≤ length words → (i : ℕ) → i < n → Stored (withReplies f n words) i (f i)
+  stored-all : (n : ℕ) → replyLength * n ≤ length words → (i : ℕ) → i < n → Stored (withReplies f n words) i (f i)
   unfolding withReplies
   stored-all zero fits i l = absurd (omega arith)
   stored-all (suc n) fits i l = byBool (eqb i n)
@@ -220,7 +241,7 @@ module _ (capacity : ℕ) (z : firstOf (startRows capacity) ≡ 0) (m : List ℕ
       ap (λ (w : List ℕ). compared (replyTo (after (started capacity w) (callsBelow calls i)) (callAt calls i))) (replicate-all blank m b)
       ∙ ledger-alike (callsBelow calls i) (callAt calls i)
 
-ledger-words : (capacity : ℕ) → firstOf (startRows capacity) ≡ 0 → (m calls words : List ℕ) (n : ℕ) → 5 * n ≤ length words
+ledger-words : (capacity : ℕ) → firstOf (startRows capacity) ≡ 0 → (m calls words : List ℕ) (n : ℕ) → replyLength * n ≤ length words
     → LedgerWords capacity m calls n (withReplies (replyAt (started capacity m) calls) n words)
 unfolding compared
 ledger-words capacity z m calls words n fits = record {
@@ -299,3 +320,32 @@ module _ (capacity : ℕ) (m calls words : List ℕ) where
         o ∙ sym (settle-yes (startRows capacity) _ 0 z),
         (ap (λ (S : State). S .medium) (rw b at d), (r, rw r (ledger-words capacity z m calls words n (omega arith)))),
       )
+
+-- one call, encoded over zeros and run into zeros
+abbrev encoded : ℕ → ℕ → ℕ → List ℕ
+encoded number subject amount = set (set (set (replicate callLength 0) numberOffset number) subjectOffset subject) amountOffset amount
+
+abbrev unanswered : List ℕ
+unanswered = replicate replyLength 0
+
+encoded-call : (number subject amount : ℕ) → callAt (encoded number subject amount) 0 ≡ callOf number subject amount
+unfolding callAt
+encoded-call number subject amount = refl
+
+-- a reply that is stored is read back as it was
+reply-back : (r : Reply) → replyFrom (withReply unanswered 0 r) ≡ r
+unfolding replyFrom withReply
+reply-back r = refl
+
+pub one-encoded : (S : State) (number subject amount : ℕ) (table : Table) (medium replies : List ℕ) (r : Reply)
+    → record { table = table; medium = medium } ≡ after S (callsBelow (encoded number subject amount) 1)
+    → replies ≡ withReplies (replyAt S (encoded number subject amount)) 1 unanswered
+    → r ≡ replyFrom replies
+    → Called S (callOf number subject amount) r table medium
+unfolding callsBelow withReplies replyAt after
+one-encoded S number subject amount table medium replies r d e f =
+    let c = encoded-call number subject amount in
+    let s : record { table = table; medium = medium } ≡ nextBy S (callOf number subject amount) = d ∙ appended-after S [] _ ∙ ap (nextBy S) c in (
+      f ∙ ap replyFrom e ∙ reply-back _ ∙ ap (replyTo S) c,
+      (ap (λ (T : State). T .table) s, ap (λ (T : State). T .medium) s),
+    )

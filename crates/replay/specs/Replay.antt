@@ -1,4 +1,4 @@
--- An encoded list of calls, run: three words a call, five words a reply.
+-- An encoded list of calls, run. Encoding.antt says which word is which.
 use Prim.Native.Nat.{ℕ, zero, suc, _+_, _*_, _/_, _<_, min}
 use mathlib.Core.Bool.{cond}
 use mathlib.Core.Path.{_≡_}
@@ -9,6 +9,7 @@ use lib.Dec.{eqb}
 use Rattle.lists.specs.Below.{nth}
 use Rattle.medium.specs.Word.{blank}
 use Rattle.upkeep.specs.Upkeep.{oneMore}
+use Rattle.replies.specs.Number.{addServerNumber, reweightNumber, writeNumber, deleteNumber, lookupNumber}
 use Rattle.replies.specs.Refusal.{settle}
 use Rattle.replies.specs.declared.Reply.{Reply}
 use Rattle.replies.specs.Reply.{refused}
@@ -16,19 +17,27 @@ use Rattle.servers.specs.Servers.{startRows, startTable}
 use Rattle.history.specs.Call.{Call, addServer, reweight, write, delete, lookup, Compared}
 use Rattle.history.specs.Machine.{State, reply, next, after}
 use Rattle.history.specs.Ledger.{Ledger, opening, told, enter, ledgerAfter}
+use Rattle.replay.specs.Encoding.{callLength, numberOffset, subjectOffset, amountOffset, replyLength, refusalOffset, serverOffset, valueOffset, highOffset, openedOffset, invalidatedOffset, spareOffset, lastOffset}
 
--- the call of a number, 1 to 5 in the order of the letters F, G, W, D, L, and two arguments; another number is no call
+-- the call of a number, a subject (an id or a server) and an amount (a value or a weight); another number is no call
 unfoldable pub callOf : ℕ → ℕ → ℕ → Option Call
-callOf number first second =
-    cond (eqb number 1) (some (addServer first))
-    (cond (eqb number 2) (some (reweight first second))
-    (cond (eqb number 3) (some (write first second))
-    (cond (eqb number 4) (some (delete first))
-    (cond (eqb number 5) (some (lookup first))
+callOf number subject amount =
+    cond (eqb number addServerNumber) (some (addServer amount))
+    (cond (eqb number reweightNumber) (some (reweight subject amount))
+    (cond (eqb number writeNumber) (some (write subject amount))
+    (cond (eqb number deleteNumber) (some (delete subject))
+    (cond (eqb number lookupNumber) (some (lookup subject))
     none))))
 
+-- word k of call i, and of reply i
+abbrev pub callWord : List ℕ → ℕ → ℕ → ℕ
+callWord words i k = nth words (callLength * i + k)
+
+abbrev pub replyWord : List ℕ → ℕ → ℕ → ℕ
+replyWord words i k = nth words (replyLength * i + k)
+
 unfoldable pub callAt : List ℕ → ℕ → Option Call
-callAt words i = callOf (nth words (3 * i)) (nth words (3 * i + 1)) (nth words (3 * i + 2))
+callAt words i = callOf (callWord words i numberOffset) (callWord words i subjectOffset) (callWord words i amountOffset)
 
 -- the calls among the first n
 unfoldable pub appended : List Call → Option Call → List Call
@@ -57,16 +66,30 @@ ledgerReplyTo L (some c) = enter L c .reply
 
 -- the used entries after a call by its number and reply: a write that is accepted has one more on its server
 unfoldable pub usedAfter : List ℕ → ℕ → Reply → List ℕ
-usedAfter used number r = cond (eqb number 3) (cond (eqb (r .refusal) 0) (oneMore used (r .server)) used) used
+usedAfter used number r = cond (eqb number writeNumber) (cond (eqb (r .refusal) 0) (oneMore used (r .server)) used) used
 
--- the five words of reply i
+-- the eight words of reply i
 unfoldable pub withReply : List ℕ → ℕ → Reply → List ℕ
 withReply words i r =
-    let refusal = set words (5 * i) (r .refusal) in
-    let server = set refusal (5 * i + 1) (r .server) in
-    let value = set server (5 * i + 2) (r .value) in
-    let opened = set value (5 * i + 3) (r .opened) in
-    set opened (5 * i + 4) (r .invalidated)
+    let at = replyLength * i in
+    let refusal = set words (at + refusalOffset) (r .refusal) in
+    let server = set refusal (at + serverOffset) (r .server) in
+    let value = set server (at + valueOffset) (r .value) in
+    let high = set value (at + highOffset) 0 in
+    let opened = set high (at + openedOffset) (r .opened) in
+    let invalidated = set opened (at + invalidatedOffset) (r .invalidated) in
+    let spare = set invalidated (at + spareOffset) 0 in
+    set spare (at + lastOffset) 0
+
+-- the reply of eight words
+unfoldable pub replyFrom : List ℕ → Reply
+replyFrom words = record {
+  refusal = nth words refusalOffset;
+  server = nth words serverOffset;
+  value = nth words valueOffset;
+  opened = nth words openedOffset;
+  invalidated = nth words invalidatedOffset;
+}
 
 -- the words with the first n replies, and the rest as lent
 unfoldable pub withReplies : (ℕ → Reply) → ℕ → List ℕ → List ℕ
@@ -75,7 +98,7 @@ withReplies f (suc n) words = withReply (withReplies f n words) n (f n)
 
 -- as many calls as both slices have room for
 abbrev pub roomFor : List ℕ → List ℕ → ℕ
-roomFor calls replies = min (length calls / 3) (length replies / 5)
+roomFor calls replies = min (length calls / callLength) (length replies / replyLength)
 
 -- the reply of the archive to call i of a list run from a state
 unfoldable pub replyAt : State → List ℕ → ℕ → Reply
@@ -94,7 +117,7 @@ ledgerReplyAt capacity n calls i = ledgerReplyTo (ledgerAfter (opening capacity 
 
 -- what is compared of reply i, by its words
 abbrev pub comparedAt : List ℕ → ℕ → Compared
-comparedAt words i = told (nth words (5 * i)) (nth words (5 * i + 1)) (nth words (5 * i + 2)) (nth words (5 * i + 3))
+comparedAt words i = told (replyWord words i refusalOffset) (replyWord words i serverOffset) (replyWord words i valueOffset) (replyWord words i openedOffset)
 
 -- on blank words the replies' refusal, server, value and opened are the plain ledger's
 pub record LedgerWords (capacity : ℕ) (m calls : List ℕ) (n : ℕ) (replies : List ℕ) : Type 0 where

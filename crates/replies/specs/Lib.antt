@@ -1,2 +1,3 @@
 pub mod Refusal
 pub mod Reply
+pub mod Number

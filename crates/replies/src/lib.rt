@@ -1,4 +1,4 @@
-// Why a call is refused, what each call answers, and both in document 01's numbers.
+// Why a call is refused, what each call answers, both in document 01's numbers, and the number of each call.
 mod numbers;
 
 pub use numbers::check_number;
@@ -7,6 +7,17 @@ pub use numbers::lookup_reply;
 pub use numbers::server_reply;
 pub use numbers::start_reply;
 pub use numbers::write_reply;
+
+// The number of each call; 0 is no call.
+pub const ADD_SERVER: u32 = 1;
+
+pub const REWEIGHT: u32 = 2;
+
+pub const WRITE: u32 = 3;
+
+pub const DELETE: u32 = 4;
+
+pub const LOOKUP: u32 = 5;
 
 // Why a call is refused: a case for each number of document 01's table, in its order from 1 to 10.
 pub enum Refusal {

@@ -26,7 +26,7 @@ unfolding lineRun called started settle
 line-alike lines m m′ e h (line.Start capacity) = byBool (eqb (firstOf (startRows capacity)) 0)
     (λ a. rw (a, e))
     (λ r. rw (r, h))
-line-alike lines m m′ e h (line.Call number a b) = ap (λ (x : List ℕ). question ++ x) h
+line-alike lines m m′ e h (line.Call number subject amount) = ap (λ (x : List ℕ). question ++ x) h
 line-alike lines m m′ e h line.Unreadable = ap (λ (x : List ℕ). question ++ x) h
 
 run-alike : (lines : List (List ℕ)) (m m′ : List ℕ) → length m ≡ length m′ → run (fresh m) lines .bytes ≡ run (fresh m′) lines .bytes

@@ -23,6 +23,7 @@ use Rattle.replay.specs.Replay.{callOf, replyTo, nextBy}
 use Rattle.replay.proofs.Replaying.{start-number}
 use Rattle.text.specs.declared.Line.{Line}
 use Rattle.text.specs.declared.Line.the-variants as line
+use Rattle.text.specs.Letter.{startLetter}
 use Rattle.text.specs.Print.{printed, question, answered}
 use Rattle.sheet.specs.declared.InUse.{InUse}
 use Rattle.sheet.specs.Sheet.{Sheet, Done, sheetOf, started, called, lineRun}
@@ -63,31 +64,31 @@ module _ (u : InUse) (m : List ℕ) where
   not-read L e = rw e
 
   -- a call before the first accepted S
-  pub too-early : (number a b : ℕ) → u .started ≡ false → lineRun (sheetOf u m) (line.Call number a b) ≡ record { bytes = question; sheet = sheetOf u m }
+  pub too-early : (number subject amount : ℕ) → u .started ≡ false → lineRun (sheetOf u m) (line.Call number subject amount) ≡ record { bytes = question; sheet = sheetOf u m }
   unfolding lineRun called sheetOf
-  too-early number a b e = rw e
+  too-early number subject amount e = rw e
 
   -- and after it, with what the call gives
-  pub call-run : (number a b : ℕ) → u .started ≡ true → (r : Reply) (t : Table) (m′ : List ℕ)
-      → (let S : State = record { table = u .table; medium = m } in r ≡ replyTo S (callOf number a b))
-      → (let S : State = record { table = u .table; medium = m } in t ≡ nextBy S (callOf number a b) .table)
-      → (let S : State = record { table = u .table; medium = m } in m′ ≡ nextBy S (callOf number a b) .medium)
-      → lineRun (sheetOf u m) (line.Call number a b) ≡ record { bytes = answered number r; sheet = record { table = some t; medium = m′ } }
+  pub call-run : (number subject amount : ℕ) → u .started ≡ true → (r : Reply) (t : Table) (m′ : List ℕ)
+      → (let S : State = record { table = u .table; medium = m } in r ≡ replyTo S (callOf number subject amount))
+      → (let S : State = record { table = u .table; medium = m } in t ≡ nextBy S (callOf number subject amount) .table)
+      → (let S : State = record { table = u .table; medium = m } in m′ ≡ nextBy S (callOf number subject amount) .medium)
+      → lineRun (sheetOf u m) (line.Call number subject amount) ≡ record { bytes = answered number r; sheet = record { table = some t; medium = m′ } }
   unfolding lineRun called sheetOf
-  call-run number a b e r t m′ er et em = rw (e, er, et, em)
+  call-run number subject amount e r t m′ er et em = rw (e, er, et, em)
 
   module _ (capacity : ℕ) (r x : Reply) (e : r ≡ x) (f : x ≡ startReply capacity) where
     number : r .refusal ≡ firstOf (startRows capacity)
     number = ap (λ (y : Reply). y .refusal) (e ∙ f) ∙ start-number capacity
 
-    bytes : printed 83 (startReply capacity .refusal) 0 0 ≡ printed 83 (r .refusal) 0 0
-    bytes = ap (λ (y : Reply). printed 83 (y .refusal) 0 0) (sym (e ∙ f))
+    bytes : printed startLetter (startReply capacity .refusal) 0 0 ≡ printed startLetter (r .refusal) 0 0
+    bytes = ap (λ (y : Reply). printed startLetter (y .refusal) 0 0) (sym (e ∙ f))
 
-    pub start-refused : r .refusal ≢ 0 → lineRun (sheetOf u m) (line.Start capacity) ≡ record { bytes = printed 83 (r .refusal) 0 0; sheet = sheetOf u m }
+    pub start-refused : r .refusal ≢ 0 → lineRun (sheetOf u m) (line.Start capacity) ≡ record { bytes = printed startLetter (r .refusal) 0 0; sheet = sheetOf u m }
     unfolding lineRun started
     start-refused n = rw (bytes, settle-no (startRows capacity) _ _ (λ z. n (number ∙ z)))
 
     pub start-accepted : r .refusal ≡ 0 → (t : Table) (m′ : List ℕ) → t ≡ startTable capacity → m′ ≡ replicate (length m) blank
-        → lineRun (sheetOf u m) (line.Start capacity) ≡ record { bytes = printed 83 (r .refusal) 0 0; sheet = record { table = some t; medium = m′ } }
+        → lineRun (sheetOf u m) (line.Start capacity) ≡ record { bytes = printed startLetter (r .refusal) 0 0; sheet = record { table = some t; medium = m′ } }
     unfolding lineRun started sheetOf
     start-accepted z t m′ et em = rw (bytes, settle-yes (startRows capacity) _ _ (sym number ∙ z), et, em)

@@ -14,9 +14,11 @@ use Rattle.lists.specs.Below.{nth}
 use Rattle.lists.proofs.Below.{sets-append}
 use Rattle.lists.proofs.Tests.{byBool}
 use Rattle.table.specs.declared.Table.{Table}
+use Rattle.replies.specs.Number.{addServerNumber, reweightNumber, writeNumber, deleteNumber, lookupNumber}
 use Rattle.replies.specs.declared.Reply.{Reply}
 use Rattle.text.specs.declared.Line.{Line}
 use Rattle.text.specs.declared.Line.the-variants as line
+use Rattle.text.specs.Letter.{startLetter, letterOf}
 use Rattle.text.specs.Line.{lineOf, endBelow, endOf}
 use Rattle.text.specs.Print.{printed, question, answered}
 use Rattle.text.proofs.Printing.{decimal-short, length-line}
@@ -33,27 +35,27 @@ question-short = omega arith
 
 answered-short : (number : ℕ) (r : Reply) → length (answered number r) ≤ 35
 unfolding answered
-answered-short number r = byBool (eqb number 1)
-    (λ e. rw e (short 70 (r .refusal) (r .server) 0))
-    (λ f₁. byBool (eqb number 2)
-    (λ e. rw (f₁, e) (short 71 (r .refusal) (r .server) 0))
-    (λ f₂. byBool (eqb number 3)
-    (λ e. rw (f₁, f₂, e) (short 87 (r .refusal) (r .server) (r .invalidated)))
-    (λ f₃. byBool (eqb number 4)
-    (λ e. rw (f₁, f₂, f₃, e) (short 68 (r .refusal) (r .invalidated) 0))
-    (λ f₄. byBool (eqb number 5)
-    (λ e. rw (f₁, f₂, f₃, f₄, e) (short 76 (r .refusal) (r .value) (r .opened)))
+answered-short number r = byBool (eqb number addServerNumber)
+    (λ e. rw e (short (letterOf number) (r .refusal) (r .server) 0))
+    (λ f₁. byBool (eqb number reweightNumber)
+    (λ e. rw (f₁, e) (short (letterOf number) (r .refusal) (r .server) 0))
+    (λ f₂. byBool (eqb number writeNumber)
+    (λ e. rw (f₁, f₂, e) (short (letterOf number) (r .refusal) (r .server) (r .invalidated)))
+    (λ f₃. byBool (eqb number deleteNumber)
+    (λ e. rw (f₁, f₂, f₃, e) (short (letterOf number) (r .refusal) (r .invalidated) 0))
+    (λ f₄. byBool (eqb number lookupNumber)
+    (λ e. rw (f₁, f₂, f₃, f₄, e) (short (letterOf number) (r .refusal) (r .value) (r .opened)))
     (λ f₅. rw (f₁, f₂, f₃, f₄, f₅) question-short)))))
 
-called-short : (s : Sheet) (o : Option Table) (number a b : ℕ) → length (called s o number a b .bytes) ≤ 35
+called-short : (s : Sheet) (o : Option Table) (number subject amount : ℕ) → length (called s o number subject amount .bytes) ≤ 35
 unfolding called
-called-short s none number a b = question-short
-called-short s (some t) number a b = answered-short number _
+called-short s none number subject amount = question-short
+called-short s (some t) number subject amount = answered-short number _
 
 line-short : (s : Sheet) (L : Line) → length (lineRun s L .bytes) ≤ 35
 unfolding lineRun started
-line-short s (line.Start capacity) = short 83 _ 0 0
-line-short s (line.Call number a b) = called-short s (s .table) number a b
+line-short s (line.Start capacity) = short startLetter _ 0 0
+line-short s (line.Call number subject amount) = called-short s (s .table) number subject amount
 line-short s line.Unreadable = question-short
 
 -- so a line's end leaves room for the next

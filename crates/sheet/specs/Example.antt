@@ -21,6 +21,7 @@ use Rattle.writing.specs.Writing.{target, entryRows, writeRows, writeMarks, wri
 use Rattle.servers.specs.Servers.{startRows, startReply, startTable, addServerRows, addServerReply, addServerTable, reweightRows, reweightReply, reweightTable}
 use Rattle.history.specs.Machine.{reply, next}
 use Rattle.replay.specs.Replay.{callOf, replyTo, nextBy}
+use Rattle.text.specs.Letter.{letters, letterOf, numberFor}
 use Rattle.text.specs.Line.{isDigit, digitRun, valueOf, numberAt, spaced, lineBy, hasTwo, last, first, lineOf}
 use Rattle.text.specs.Print.{digits, decimal, printed, question, answered}
 use Rattle.sheet.specs.Sheet.{longer, linesOf, started, called, lineRun, run, outputOf}
@@ -57,5 +58,5 @@ output =
     []
 
 pub example : outputOf input (replicate 36 4294967295) .bytes ≡ output
-unfolding input output allBelow highest orZero upward countBelow total setBelow stepOf nonzero seedOf xorLeft xorRight roundOf drawOf exceeds atLeast raise shareOf writeP takes pick writeServer readable serverAt entryAt bearsAt live blankRun burnAll marksOn marksOver invalidations readSound serverSound sound withServer withWeight oneMore withEntry firstOf settle replyBy lastLive opening searchBelow searchFor startRows startReply startTable addServerRows addServerReply addServerTable reweightRows reweightReply reweightTable short readyRows target entryRows writeRows writeMarks writeBurns writeReply writeTable writeMedium isMet deleteRows deleteMarks deleteReply deleteMedium lookupRows metReply lookupReply reply next callOf replyTo nextBy isDigit digitRun valueOf numberAt spaced lineBy hasTwo last first lineOf longer linesOf digits decimal printed question answered started called lineRun run outputOf
+unfolding input output allBelow highest orZero upward countBelow total setBelow stepOf nonzero seedOf xorLeft xorRight roundOf drawOf exceeds atLeast raise shareOf writeP takes pick writeServer readable serverAt entryAt bearsAt live blankRun burnAll marksOn marksOver invalidations readSound serverSound sound withServer withWeight oneMore withEntry firstOf settle replyBy lastLive opening searchBelow searchFor startRows startReply startTable addServerRows addServerReply addServerTable reweightRows reweightReply reweightTable short readyRows target entryRows writeRows writeMarks writeBurns writeReply writeTable writeMedium isMet deleteRows deleteMarks deleteReply deleteMedium lookupRows metReply lookupReply reply next callOf replyTo nextBy isDigit digitRun valueOf numberAt spaced letters letterOf numberFor lineBy hasTwo last first lineOf longer linesOf digits decimal printed question answered started called lineRun run outputOf
 example = refl

@@ -13,6 +13,7 @@ use Rattle.history.specs.Machine.{State}
 use Rattle.replay.specs.Replay.{callOf, replyTo, nextBy}
 use Rattle.text.specs.declared.Line.{Line}
 use Rattle.text.specs.declared.Line.the-variants as line
+use Rattle.text.specs.Letter.{startLetter}
 use Rattle.text.specs.Line.{lineOf}
 use Rattle.text.specs.Print.{printed, question, answered}
 use Rattle.sheet.specs.declared.InUse.{InUse}
@@ -43,16 +44,16 @@ pub record Done : Type 0 where
 -- an accepted S starts a table and blanks the words; a refused one keeps the table in use
 unfoldable pub started : Sheet → ℕ → Done
 started s capacity = record {
-  bytes = printed 83 (startReply capacity .refusal) 0 0;
+  bytes = printed startLetter (startReply capacity .refusal) 0 0;
   sheet = settle (startRows capacity) (record { table = some (startTable capacity); medium = replicate (length (s .medium)) blank }) s;
 }
 
 -- before the first accepted S a call prints a question mark
 unfoldable pub called : Sheet → Option Table → ℕ → ℕ → ℕ → Done
-called s none number a b = record { bytes = question; sheet = s }
-called s (some t) number a b =
+called s none number subject amount = record { bytes = question; sheet = s }
+called s (some t) number subject amount =
     let S : State = record { table = t; medium = s .medium } in
-    let o = callOf number a b in
+    let o = callOf number subject amount in
     record {
       bytes = answered number (replyTo S o);
       sheet = record { table = some (nextBy S o .table); medium = nextBy S o .medium };
@@ -60,7 +61,7 @@ called s (some t) number a b =
 
 unfoldable pub lineRun : Sheet → Line → Done
 lineRun s (line.Start capacity) = started s capacity
-lineRun s (line.Call number a b) = called s (s .table) number a b
+lineRun s (line.Call number subject amount) = called s (s .table) number subject amount
 lineRun s line.Unreadable = record { bytes = question; sheet = s }
 
 unfoldable pub run : Sheet → List (List ℕ) → Done
@@ -70,8 +71,11 @@ run s (l ∷ rest) =
     let r = run (d .sheet) rest in
     record { bytes = d .bytes ++ r .bytes; sheet = r .sheet }
 
--- input longer than 65,536 bytes prints one question mark only
+-- bytes of the longest input; a longer one prints one question mark only
+abbrev pub maxInput : ℕ
+maxInput = 65536
+
 unfoldable pub outputOf : List ℕ → List ℕ → Done
 outputOf input m =
     let s : Sheet = record { table = none; medium = m } in
-    cond (ltb 65536 (length input)) (record { bytes = question; sheet = s }) (run s (linesOf input))
+    cond (ltb maxInput (length input)) (record { bytes = question; sheet = s }) (run s (linesOf input))

@@ -5,8 +5,12 @@ ghost use mathlib.Core.Path.{_≡_};
 ghost use Prim.Native.Nat.{_*_, _≤_};
 ghost use lib.ListN.{length};
 ghost use lib.Seq.{sets};
+ghost use Rattle.text.specs.Print.{longestLine};
 ghost use Rattle.sheet.specs.Sheet.{outputOf};
 use table::Table;
+
+// Bytes of the longest input.
+pub const MAX_INPUT: usize = 65536;
 
 // The table in use, once a start was accepted; before that the table counts for nothing.
 pub struct InUse {
@@ -22,12 +26,12 @@ pub struct Ran {
 
 // Puts a sheet's output at the start of the buffer and answers its number of bytes. A byte of input prints at most 35.
 pub fn run(input: &[u8], medium: &mut [u32], out: &mut [u8]) -> usize
-    requires { ⌜ 35 * length (now input) ≤ length (now out) ⌝ }
+    requires { ⌜ longestLine * length (now input) ≤ length (now out) ⌝ }
     ensures number { λ r. ⌜ r ≡ length (outputOf (now (input .entry)) (now (medium .entry)) .bytes) ⌝ }
     ensures bytes { λ _. ⌜ now (out .exit) ≡ sets (now (out .entry)) 0 (outputOf (now (input .entry)) (now (medium .entry)) .bytes) ⌝ }
     ensures words { λ _. ⌜ now (medium .exit) ≡ outputOf (now (input .entry)) (now (medium .entry)) .sheet .medium ⌝ }
 {
-    if input.len() > 65536 {
+    if input.len() > MAX_INPUT {
         return text::put_question(out, 0);
     }
     let mut in_use = InUse {

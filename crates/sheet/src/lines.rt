@@ -6,7 +6,7 @@ ghost use lib.Seq.{sets};
 ghost use Rattle.medium.specs.Word.{blank};
 ghost use Rattle.text.specs.declared.Line.the-variants as line;
 ghost use Rattle.text.specs.Line.{lineOf};
-ghost use Rattle.text.specs.Print.{question};
+ghost use Rattle.text.specs.Print.{longestLine, question};
 ghost use Rattle.sheet.specs.Sheet.{sheetOf, lineRun};
 use crate::InUse;
 use crate::Ran;
@@ -37,7 +37,7 @@ fn ask(in_use: InUse, out: &mut [u8], at: usize) -> Ran
 
 // A start that is refused keeps the table in use.
 fn run_start(in_use: InUse, medium: &mut [u32], capacity: u32, out: &mut [u8], at: usize) -> Ran
-    requires { ⌜ at + 35 ≤ length (now out) ⌝ }
+    requires { ⌜ at + longestLine ≤ length (now out) ⌝ }
     ensures next { λ r. ⌜ r .next ≡ at + length (lineRun (sheetOf in_use (now (medium .entry))) (line.Start capacity) .bytes) ⌝ }
     ensures bytes { λ _. ⌜ now (out .exit) ≡ sets (now (out .entry)) at (lineRun (sheetOf in_use (now (medium .entry))) (line.Start capacity) .bytes) ⌝ }
     ensures sheet { λ r. ⌜ sheetOf (r .in_use) (now (medium .exit)) ≡ lineRun (sheetOf in_use (now (medium .entry))) (line.Start capacity) .sheet ⌝ }
@@ -45,7 +45,7 @@ fn run_start(in_use: InUse, medium: &mut [u32], capacity: u32, out: &mut [u8], a
     let begun = servers::start(capacity);
     let answer = begun.answer;
     let reply = replies::start_reply(answer);
-    let next = text::put_answer(out, at, 83, reply.refusal, 0, 0);
+    let next = text::put_answer(out, at, text::START, reply.refusal, 0, 0);
     if reply.refusal != 0 {
         return Ran { next, in_use };
     }
@@ -65,21 +65,21 @@ fn run_call(
     in_use: InUse,
     medium: &mut [u32],
     number: u32,
-    first: u32,
-    second: u32,
+    subject: u32,
+    amount: u32,
     out: &mut [u8],
     at: usize,
 ) -> Ran
-    requires { ⌜ at + 35 ≤ length (now out) ⌝ }
-    ensures next { λ r. ⌜ r .next ≡ at + length (lineRun (sheetOf in_use (now (medium .entry))) (line.Call number first second) .bytes) ⌝ }
-    ensures bytes { λ _. ⌜ now (out .exit) ≡ sets (now (out .entry)) at (lineRun (sheetOf in_use (now (medium .entry))) (line.Call number first second) .bytes) ⌝ }
-    ensures sheet { λ r. ⌜ sheetOf (r .in_use) (now (medium .exit)) ≡ lineRun (sheetOf in_use (now (medium .entry))) (line.Call number first second) .sheet ⌝ }
+    requires { ⌜ at + longestLine ≤ length (now out) ⌝ }
+    ensures next { λ r. ⌜ r .next ≡ at + length (lineRun (sheetOf in_use (now (medium .entry))) (line.Call number subject amount) .bytes) ⌝ }
+    ensures bytes { λ _. ⌜ now (out .exit) ≡ sets (now (out .entry)) at (lineRun (sheetOf in_use (now (medium .entry))) (line.Call number subject amount) .bytes) ⌝ }
+    ensures sheet { λ r. ⌜ sheetOf (r .in_use) (now (medium .exit)) ≡ lineRun (sheetOf in_use (now (medium .entry))) (line.Call number subject amount) .sheet ⌝ }
 {
     if !in_use.started {
         return ask(in_use, out, at);
     }
     let table = in_use.table;
-    let ran = replay::run_call(table, medium, number, first, second);
+    let ran = replay::run_call(table, medium, number, subject, amount);
     let next = text::put_reply(out, at, number, ran.reply);
     let after = ran.table;
     Ran {
@@ -93,19 +93,19 @@ fn run_call(
 
 // Runs what a line asks for.
 fn run_read(in_use: InUse, medium: &mut [u32], line: Line, out: &mut [u8], at: usize) -> Ran
-    requires { ⌜ at + 35 ≤ length (now out) ⌝ }
+    requires { ⌜ at + longestLine ≤ length (now out) ⌝ }
     ensures next { λ r. ⌜ r .next ≡ at + length (lineRun (sheetOf in_use (now (medium .entry))) line .bytes) ⌝ }
     ensures bytes { λ _. ⌜ now (out .exit) ≡ sets (now (out .entry)) at (lineRun (sheetOf in_use (now (medium .entry))) line .bytes) ⌝ }
     ensures sheet { λ r. ⌜ sheetOf (r .in_use) (now (medium .exit)) ≡ lineRun (sheetOf in_use (now (medium .entry))) line .sheet ⌝ }
 {
     match line {
         Line::Start(capacity) => run_start(in_use, medium, capacity, out, at),
-        Line::Call(number, first, second) => run_call(
+        Line::Call(number, subject, amount) => run_call(
             in_use,
             medium,
             number,
-            first,
-            second,
+            subject,
+            amount,
             out,
             at,
         ),
@@ -115,7 +115,7 @@ fn run_read(in_use: InUse, medium: &mut [u32], line: Line, out: &mut [u8], at: u
 
 // Each number is taken out of the line's bytes, or the line gets its question mark.
 pub fn run_line(in_use: InUse, medium: &mut [u32], line: &[u8], out: &mut [u8], at: usize) -> Ran
-    requires { ⌜ at + 35 ≤ length (now out) ⌝ }
+    requires { ⌜ at + longestLine ≤ length (now out) ⌝ }
     ensures next { λ r. ⌜ r .next ≡ at + length (lineRun (sheetOf in_use (now (medium .entry))) (lineOf (now (line .entry))) .bytes) ⌝ }
     ensures bytes { λ _. ⌜ now (out .exit) ≡ sets (now (out .entry)) at (lineRun (sheetOf in_use (now (medium .entry))) (lineOf (now (line .entry))) .bytes) ⌝ }
     ensures sheet { λ r. ⌜ sheetOf (r .in_use) (now (medium .exit)) ≡ lineRun (sheetOf in_use (now (medium .entry))) (lineOf (now (line .entry))) .sheet ⌝ }

@@ -1,2 +1,3 @@
+pub mod Letter
 pub mod Line
 pub mod Print

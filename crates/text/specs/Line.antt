@@ -7,10 +7,12 @@ use mathlib.Core.Option.{Option, none, some}
 use lib.ListN.{length}
 use lib.Dec.{leb, ltb, eqb}
 use Rattle.lists.specs.Below.{nth}
+use Rattle.replies.specs.Number.{addServerNumber, reweightNumber, writeNumber}
 use Rattle.text.specs.declared.Parsed.{Parsed}
 use Rattle.text.specs.declared.Parsed.the-variants as parsed
 use Rattle.text.specs.declared.Line.{Line}
 use Rattle.text.specs.declared.Line.the-variants as line
+use Rattle.text.specs.Letter.{startLetter, numberFor}
 
 unfoldable pub isDigit : ℕ → Bool
 isDigit b = leb 48 b && leb b 57
@@ -45,20 +47,18 @@ parsedOf (some x) = parsed.Number (x .value) (x .next)
 unfoldable pub spaced : List ℕ → ℕ → Option Number
 spaced s at = cond (eqb (nth s at) 32) (numberAt s (at + 1)) none
 
--- the line of a letter and its numbers: S starts; F, G, W, D, L are calls 1 to 5, as replay's callOf has them
+-- the line of a letter and its numbers: S starts; a call has its subject first, but F has its amount alone
 unfoldable pub lineBy : ℕ → ℕ → ℕ → Line
 lineBy letter a b =
-    cond (eqb letter 83) (line.Start a)
-    (cond (eqb letter 70) (line.Call 1 a b)
-    (cond (eqb letter 71) (line.Call 2 a b)
-    (cond (eqb letter 87) (line.Call 3 a b)
-    (cond (eqb letter 68) (line.Call 4 a b)
-    (cond (eqb letter 76) (line.Call 5 a b)
-    line.Unreadable)))))
+    let number = numberFor letter in
+    cond (eqb letter startLetter) (line.Start a)
+    (cond (eqb number 0) line.Unreadable
+    (cond (eqb number addServerNumber) (line.Call number 0 a)
+    (line.Call number a b)))
 
 -- G and W have two numbers, the others one
 unfoldable pub hasTwo : ℕ → Bool
-hasTwo letter = eqb letter 71 || eqb letter 87
+hasTwo letter = eqb (numberFor letter) reweightNumber || eqb (numberFor letter) writeNumber
 
 -- the last number of a line, with nothing after it
 unfoldable pub last : List ℕ → (ℕ → Line) → Option Number → Line

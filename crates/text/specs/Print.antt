@@ -3,7 +3,9 @@ use Prim.Native.Nat.{ℕ, zero, suc, _+_, _/_, _%_}
 use mathlib.Core.Bool.{cond}
 use mathlib.Core.List.{List, [], _∷_, _++_}
 use lib.Dec.{ltb, eqb}
+use Rattle.replies.specs.Number.{addServerNumber, reweightNumber, writeNumber, deleteNumber, lookupNumber}
 use Rattle.replies.specs.declared.Reply.{Reply}
+use Rattle.text.specs.Letter.{letterOf}
 
 -- decimal digits without leading zeros, of a number of at most n digits
 unfoldable pub digits : ℕ → ℕ → List ℕ
@@ -17,15 +19,20 @@ decimal x = digits 10 x
 unfoldable pub printed : ℕ → ℕ → ℕ → ℕ → List ℕ
 printed letter refusal a b = letter ∷ 32 ∷ (decimal refusal ++ (32 ∷ (decimal a ++ (32 ∷ (decimal b ++ (10 ∷ []))))))
 
+-- bytes of the longest of these lines: a letter, three numbers of ten digits, a blank before each, and LF
+abbrev pub longestLine : ℕ
+longestLine = 35
+
 unfoldable pub question : List ℕ
 question = 63 ∷ 10 ∷ []
 
--- the answers of calls 1 to 5: F server 0; G server 0; W server invalidated; D invalidated 0; L value opened
+-- the answer of a call by its number: F server 0; G server 0; W server invalidated; D invalidated 0; L value opened
 unfoldable pub answered : ℕ → Reply → List ℕ
 answered number r =
-    cond (eqb number 1) (printed 70 (r .refusal) (r .server) 0)
-    (cond (eqb number 2) (printed 71 (r .refusal) (r .server) 0)
-    (cond (eqb number 3) (printed 87 (r .refusal) (r .server) (r .invalidated))
-    (cond (eqb number 4) (printed 68 (r .refusal) (r .invalidated) 0)
-    (cond (eqb number 5) (printed 76 (r .refusal) (r .value) (r .opened))
+    let line = printed (letterOf number) (r .refusal) in
+    cond (eqb number addServerNumber) (line (r .server) 0)
+    (cond (eqb number reweightNumber) (line (r .server) 0)
+    (cond (eqb number writeNumber) (line (r .server) (r .invalidated))
+    (cond (eqb number deleteNumber) (line (r .invalidated) 0)
+    (cond (eqb number lookupNumber) (line (r .value) (r .opened))
     question))))

@@ -3,8 +3,14 @@ ghost use mathlib.Core.Path.{_≡_};
 ghost use Prim.Native.Nat.{_<_, _≤_, _+_};
 ghost use lib.ListN.{length};
 ghost use lib.Seq.{sets};
-ghost use Rattle.text.specs.Print.{decimal, printed, question, answered};
+ghost use Rattle.text.specs.Print.{longestLine, decimal, printed, question, answered};
+use crate::letters::letter_of;
+use replies::ADD_SERVER;
+use replies::DELETE;
+use replies::LOOKUP;
+use replies::REWEIGHT;
 use replies::Reply;
+use replies::WRITE;
 
 // A number without leading zeros.
 fn put_number(out: &mut [u8], at: usize, x: u32) -> usize
@@ -30,7 +36,7 @@ pub fn put_answer(
     first: u32,
     second: u32,
 ) -> usize
-    requires { ⌜ at + 35 ≤ length (now out) ⌝ }
+    requires { ⌜ at + longestLine ≤ length (now out) ⌝ }
     ensures next { λ r. ⌜ r ≡ at + length (printed letter refusal first second) ⌝ }
     ensures bytes { λ _. ⌜ now (out .exit) ≡ sets (now (out .entry)) at (printed letter refusal first second) ⌝ }
 {
@@ -47,7 +53,7 @@ pub fn put_answer(
 
 // The answer line of a call by its number.
 pub fn put_reply(out: &mut [u8], at: usize, number: u32, reply: Reply) -> usize
-    requires { ⌜ at + 35 ≤ length (now out) ⌝ }
+    requires { ⌜ at + longestLine ≤ length (now out) ⌝ }
     requires { ⌜ (reply .server < 4294967296) × (reply .opened < 4294967296) × (reply .invalidated < 4294967296) ⌝ }
     ensures next { λ r. ⌜ r ≡ at + length (answered number reply) ⌝ }
     ensures bytes { λ _. ⌜ now (out .exit) ≡ sets (now (out .entry)) at (answered number reply) ⌝ }
@@ -55,12 +61,13 @@ pub fn put_reply(out: &mut [u8], at: usize, number: u32, reply: Reply) -> usize
     let refusal = reply.refusal;
     let server = reply.server as u32;
     let invalidated = reply.invalidated as u32;
+    let letter = letter_of(number);
     match number {
-        1 => put_answer(out, at, 70, refusal, server, 0),
-        2 => put_answer(out, at, 71, refusal, server, 0),
-        3 => put_answer(out, at, 87, refusal, server, invalidated),
-        4 => put_answer(out, at, 68, refusal, invalidated, 0),
-        5 => put_answer(out, at, 76, refusal, reply.value, reply.opened as u32),
+        ADD_SERVER => put_answer(out, at, letter, refusal, server, 0),
+        REWEIGHT => put_answer(out, at, letter, refusal, server, 0),
+        WRITE => put_answer(out, at, letter, refusal, server, invalidated),
+        DELETE => put_answer(out, at, letter, refusal, invalidated, 0),
+        LOOKUP => put_answer(out, at, letter, refusal, reply.value, reply.opened as u32),
         _ => put_question(out, at),
     }
 }

@@ -5,6 +5,11 @@ ghost use lib.ListN.{length};
 ghost use Rattle.text.specs.Line.{parsedOf, numberAt, spaced, lineBy, hasTwo, endOf};
 use crate::Line;
 use crate::Parsed;
+use crate::letters::START;
+use crate::letters::number_for;
+use replies::ADD_SERVER;
+use replies::REWEIGHT;
+use replies::WRITE;
 
 // The number that begins at a position: 1 to 10 digits, below 2^32.
 fn number_at(line: &[u8], from: usize) -> Parsed
@@ -64,18 +69,18 @@ pub fn line_end(input: &[u8], from: usize) -> usize
     end
 }
 
-// The line of a letter and its numbers.
+// The line of a letter and its numbers. The one number of F is an amount, and that of D or L a subject; G and W have both.
 pub fn line_by(letter: u8, first: u32, second: u32) -> Line
     ensures { λ r. ⌜ r ≡ lineBy letter first second ⌝ }
 {
-    match letter {
-        83 => Line::Start(first),
-        70 => Line::Call(1, first, second),
-        71 => Line::Call(2, first, second),
-        87 => Line::Call(3, first, second),
-        68 => Line::Call(4, first, second),
-        76 => Line::Call(5, first, second),
-        _ => Line::Unreadable,
+    if letter == START {
+        return Line::Start(first);
+    }
+    let number = number_for(letter);
+    match number {
+        0 => Line::Unreadable,
+        ADD_SERVER => Line::Call(number, 0, first),
+        _ => Line::Call(number, first, second),
     }
 }
 
@@ -83,8 +88,9 @@ pub fn line_by(letter: u8, first: u32, second: u32) -> Line
 pub fn has_two(letter: u8) -> bool
     ensures { λ r. ⌜ r ≡ hasTwo letter ⌝ }
 {
-    match letter {
-        71 | 87 => true,
-        _ => false,
+    let number = number_for(letter);
+    if number == REWEIGHT {
+        return true;
     }
+    number == WRITE
 }

@@ -1,6 +1,9 @@
 // The method on plain numbers: steps, rounds, seeds, draws, picks, and the comparisons at the edges.
 ghost use Prim.Native.Nat.{_≤_};
+ghost use Rattle.limits.specs.Limits.{maxCapacity};
 use crate::print;
+use limits::Column;
+use limits::MAX_SERVERS;
 use placement::Fraction;
 
 // A seed after this many rounds.
@@ -16,9 +19,9 @@ fn rounds(seed: u32, n: u32) -> u32 {
 
 // The write server of id 626627286 among three servers of these weights.
 fn picked(first: u32, second: u32, third: u32) -> u64
-    requires { ⌜ (first ≤ 65536) × (second ≤ 65536) × (third ≤ 65536) ⌝ }
+    requires { ⌜ (first ≤ maxCapacity) × (second ≤ maxCapacity) × (third ≤ maxCapacity) ⌝ }
 {
-    let mut weights: [u32; 256] = [0; 256];
+    let mut weights: Column = [0; MAX_SERVERS];
     weights[0] = first;
     weights[1] = second;
     weights[2] = third;

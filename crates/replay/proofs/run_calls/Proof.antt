@@ -1,14 +1,14 @@
 -- `replay::run_calls` meets its contract. The invariant: the calls passed are run, as `Replayed` says.
-use Prim.Native.Nat.{ℕ, _+_, _*_, _-_, _≤_}
+use Prim.Native.Nat.{ℕ, _-_, _≤_}
 use mathlib.Core.Path.{_≡_, ap, _∙_}
 use mathlib.Core.Logic.{⊎-elim}
 use mathlib.Core.List.{List}
 use native.Mathlib.Omega.{arith}
 use borrow.Author.Needs.{needs}
 use lib.ListN.{length}
-use Rattle.lists.specs.Below.{nth}
 use Rattle.history.specs.Machine.{State}
-use Rattle.replay.specs.Replay.{callOf, callAt}
+use Rattle.replay.specs.Encoding.{numberOffset, subjectOffset, amountOffset}
+use Rattle.replay.specs.Replay.{callOf, callWord, callAt}
 use Rattle.replay.proofs.Replaying.{Called, called-as, counts, called-in, called-small, Replayed, none-run, one-run}
 use Rattle.replay.proofs.run_calls.Statement.{statement}
 use Rattle.replay.proofs.run_calls.Tie as tie
@@ -26,29 +26,32 @@ loop-holds c = (search needs, none-run _ _ _)
 mul-at : tie.Need-mul-at Inv-loop μ-loop
 mul-at c = search needs
 
+add-number : tie.Need-add-number Inv-loop μ-loop
+add-number c = search needs
+
 mul-number : tie.Need-mul-number Inv-loop μ-loop
 mul-number c = search needs
 
 shared-slice-read-number : tie.Need-shared-slice-read-number Inv-loop μ-loop
 shared-slice-read-number c = search needs
 
-add-first : tie.Need-add-first Inv-loop μ-loop
-add-first c = search needs
+add-subject : tie.Need-add-subject Inv-loop μ-loop
+add-subject c = search needs
 
-mul-first : tie.Need-mul-first Inv-loop μ-loop
-mul-first c = search needs
+mul-subject : tie.Need-mul-subject Inv-loop μ-loop
+mul-subject c = search needs
 
-shared-slice-read-first : tie.Need-shared-slice-read-first Inv-loop μ-loop
-shared-slice-read-first c = search needs
+shared-slice-read-subject : tie.Need-shared-slice-read-subject Inv-loop μ-loop
+shared-slice-read-subject c = search needs
 
-add-second : tie.Need-add-second Inv-loop μ-loop
-add-second c = search needs
+add-amount : tie.Need-add-amount Inv-loop μ-loop
+add-amount c = search needs
 
-mul-second : tie.Need-mul-second Inv-loop μ-loop
-mul-second c = search needs
+mul-amount : tie.Need-mul-amount Inv-loop μ-loop
+mul-amount c = search needs
 
-shared-slice-read-second : tie.Need-shared-slice-read-second Inv-loop μ-loop
-shared-slice-read-second c = search needs
+shared-slice-read-amount : tie.Need-shared-slice-read-amount Inv-loop μ-loop
+shared-slice-read-amount c = search needs
 
 run-change-requires : tie.Need-run-change-requires Inv-loop μ-loop
 run-change-requires c κs = search needs
@@ -64,13 +67,13 @@ abbrev calls : tie.At-loop Inv-loop μ-loop → List ℕ
 calls l = l .before .before .before .before .args .calls .now
 
 abbrev number : tie.At-loop Inv-loop μ-loop → ℕ
-number l = nth (calls l) (3 * l .loop .i)
+number l = callWord (calls l) (l .loop .i) numberOffset
 
-abbrev first : tie.At-loop Inv-loop μ-loop → ℕ
-first l = nth (calls l) (3 * l .loop .i + 1)
+abbrev subject : tie.At-loop Inv-loop μ-loop → ℕ
+subject l = callWord (calls l) (l .loop .i) subjectOffset
 
-abbrev second : tie.At-loop Inv-loop μ-loop → ℕ
-second l = nth (calls l) (3 * l .loop .i + 2)
+abbrev amount : tie.At-loop Inv-loop μ-loop → ℕ
+amount l = callWord (calls l) (l .loop .i) amountOffset
 
 run-in-requires : tie.Need-run-in-requires Inv-loop μ-loop
 run-in-requires c κs = (λ e. omega arith, λ e. omega arith)
@@ -79,11 +82,11 @@ count-write-requires : tie.Need-count-write-requires Inv-loop μ-loop
 count-write-requires c κs =
     let r = c .before .before .before in
     let l = L (r .before .before .before .before .before .before .before .before) in
-    counts (S l) (number l) (first l) (second l) (r .run-in .result) (r .run-in .ensures .0)
+    counts (S l) (number l) (subject l) (amount l) (r .run-in .result) (r .run-in .ensures .0)
 
 -- the call is run, by either way
 abbrev CalledHere : tie.Joined1 Inv-loop μ-loop → Type 0
-CalledHere c = let l = L (c .before) in Called (S l) (callOf (number l) (first l) (second l)) (c .if1 .reply) (c .if1 .next) (c .if1 .medium)
+CalledHere c = let l = L (c .before) in Called (S l) (callOf (number l) (subject l) (amount l)) (c .if1 .reply) (c .if1 .next) (c .if1 .medium)
 
 called-here : (c : tie.Joined1 Inv-loop μ-loop) → CalledHere c
 called-here c =
@@ -91,7 +94,7 @@ called-here c =
     ⊎-elim {C = CalledHere c}
     (λ w. called-as (S l) _ (w .9) (w .8) (w .7) (w .2 .ensures))
     (λ w. called-as (S l) _ (w .14) (w .13) (w .12)
-    (called-in (S l) (number l) (first l) (second l) (w .7 .result) (w .7 .ensures .0) _ _ (λ e. omega (arith, w .0 .left)) (λ e. omega (arith, w .0 .left)) (w .11 .ensures) (w .7 .ensures .1)))
+    (called-in (S l) (number l) (subject l) (amount l) (w .7 .result) (w .7 .ensures .0) _ _ (λ e. omega (arith, w .0 .left)) (λ e. omega (arith, w .0 .left)) (w .11 .ensures) (w .7 .ensures .1)))
     (c .if1 .came)
 
 kept-here : (c : tie.Joined1 Inv-loop μ-loop) → length (c .if1 .medium) ≡ length (L (c .before) .loop .medium)
@@ -134,14 +137,15 @@ run-calls-spec =
     μ-loop
     loop-holds
     mul-at
+    add-number
     mul-number
     shared-slice-read-number
-    add-first
-    mul-first
-    shared-slice-read-first
-    add-second
-    mul-second
-    shared-slice-read-second
+    add-subject
+    mul-subject
+    shared-slice-read-subject
+    add-amount
+    mul-amount
+    shared-slice-read-amount
     run-change-requires
     run-in-requires
     count-write-requires

@@ -45,7 +45,7 @@ returns-3 c =
     let s = h .before .before in
     let n = s .args .number in
     let few = s .pre in
-    let e = no-call n (s .args .first) (s .args .second) (h .match .rest .0 .1) (h .match .rest .1) (λ e. omega (arith, few)) (λ e. omega (arith, few)) (λ e. omega (arith, few)) in
+    let e = no-call n (s .args .subject) (s .args .amount) (h .match .rest .0 .1) (h .match .rest .1) (λ e. omega (arith, few)) (λ e. omega (arith, few)) (λ e. omega (arith, few)) in
     rw e (c .no-call .ensures, (refl, refl))
 
 pub run-change-spec : {M : Type 1} → statement M

@@ -19,7 +19,7 @@ returns c =
     let a = c .before .before in
     let h = a .before .before in
     let s = h .before .before .before .before .args in
-    asked _ _ _ _ _ _ _ _ (too-early (s .in-use) (s .medium .now) (s .number) (s .first) (s .second) (not-true _ (h .if1 .taken))) (a .ask .ensures)
+    asked _ _ _ _ _ _ _ _ (too-early (s .in-use) (s .medium .now) (s .number) (s .subject) (s .amount) (not-true _ (h .if1 .taken))) (a .ask .ensures)
 
 run-call-requires : tie.Need-run-call-requires
 run-call-requires c κs = search needs
@@ -43,7 +43,7 @@ returns-2 c =
     let h = r .before .before .before in
     let s = h .before .before .before .before .args in
     shown _
-    (call-run (s .in-use) (s .medium .now) (s .number) (s .first) (s .second) (not-false _ (h .if1 .left)) _ _ _
+    (call-run (s .in-use) (s .medium .now) (s .number) (s .subject) (s .amount) (not-false _ (h .if1 .left)) _ _ _
     (r .run-call .ensures .0) (r .run-call .ensures .1 .0) (r .run-call .ensures .1 .1))
     _ _ _ _ _ (p .put-reply .ensures .0) (p .put-reply .ensures .1) refl
 

@@ -11,6 +11,9 @@ cast-server c = search needs
 cast-invalidated : tie.Need-cast-invalidated
 cast-invalidated c = search needs
 
+letter-of-requires : tie.Need-letter-of-requires
+letter-of-requires c κs = search needs
+
 put-answer-requires : tie.Need-put-answer-requires
 put-answer-requires c κs = search needs
 
@@ -39,7 +42,7 @@ returns : tie.Need-returns
 unfolding answered
 returns c =
     let a = c .before .before in
-    rw (a .before .before .match .keys1) (a .put-answer .ensures .0, a .put-answer .ensures .1)
+    rw (← a .before .before .before .letter-of .ensures, a .before .before .match .keys1) (a .put-answer .ensures .0, a .put-answer .ensures .1)
 
 same-length-2 : tie.Need-same-length-2
 same-length-2 c = search needs
@@ -48,7 +51,7 @@ returns-2 : tie.Need-returns-2
 unfolding answered
 returns-2 c =
     let a = c .before .before in
-    rw (a .before .before .match .keys2) (a .put-answer2 .ensures .0, a .put-answer2 .ensures .1)
+    rw (← a .before .before .before .letter-of .ensures, a .before .before .match .keys2) (a .put-answer2 .ensures .0, a .put-answer2 .ensures .1)
 
 same-length-3 : tie.Need-same-length-3
 same-length-3 c = search needs
@@ -57,7 +60,7 @@ returns-3 : tie.Need-returns-3
 unfolding answered
 returns-3 c =
     let a = c .before .before in
-    rw (a .before .before .match .keys3) (a .put-answer3 .ensures .0, a .put-answer3 .ensures .1)
+    rw (← a .before .before .before .letter-of .ensures, a .before .before .match .keys3) (a .put-answer3 .ensures .0, a .put-answer3 .ensures .1)
 
 same-length-4 : tie.Need-same-length-4
 same-length-4 c = search needs
@@ -66,7 +69,7 @@ returns-4 : tie.Need-returns-4
 unfolding answered
 returns-4 c =
     let a = c .before .before in
-    rw (a .before .before .match .keys4) (a .put-answer4 .ensures .0, a .put-answer4 .ensures .1)
+    rw (← a .before .before .before .letter-of .ensures, a .before .before .match .keys4) (a .put-answer4 .ensures .0, a .put-answer4 .ensures .1)
 
 same-length-5 : tie.Need-same-length-5
 same-length-5 c = search needs
@@ -75,7 +78,7 @@ returns-5 : tie.Need-returns-5
 unfolding answered
 returns-5 c =
     let a = c .before .before in
-    rw (a .before .before .before .match .keys5) (a .put-answer5 .ensures .0, a .put-answer5 .ensures .1)
+    rw (← a .before .before .before .before .letter-of .ensures, a .before .before .before .match .keys5) (a .put-answer5 .ensures .0, a .put-answer5 .ensures .1)
 
 same-length-6 : tie.Need-same-length-6
 same-length-6 c = search needs
@@ -93,6 +96,7 @@ put-reply-spec =
     (tie.spec
     cast-server
     cast-invalidated
+    letter-of-requires
     put-answer-requires
     put-answer-requires-2
     put-answer-requires-3

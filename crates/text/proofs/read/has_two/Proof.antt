@@ -1,17 +1,21 @@
--- `text::has_two` meets its contract.
-use mathlib.Core.Logic.{⊎-elim, inl, inr}
+-- `text::read::has_two` meets its contract.
+use borrow.Author.Needs.{needs}
 use borrow.Author.Tests.{ne-eqb}
+use Rattle.replies.specs.Number.{reweightNumber}
 use Rattle.text.specs.Line.{hasTwo}
 use Rattle.text.proofs.read.has_two.Statement.{statement}
 use Rattle.text.proofs.read.has_two.Tie as tie
 
+number-for-requires : tie.Need-number-for-requires
+number-for-requires c κs = search needs
+
 returns : tie.Need-returns
 unfolding hasTwo
-returns c = ⊎-elim (λ e. rw e) (λ e. rw e) (c .match .keys1)
+returns c = rw (← c .before .number-for .ensures, c .if1 .taken)
 
 returns-2 : tie.Need-returns-2
 unfolding hasTwo
-returns-2 c = rw (ne-eqb _ 71 (λ e. c .match .rest .1 (inl e)), ne-eqb _ 87 (λ e. c .match .rest .1 (inr e)))
+returns-2 c = rw (← c .before .number-for .ensures, ne-eqb _ reweightNumber (c .if1 .left))
 
 pub has-two-spec : {M : Type 1} → statement M
-has-two-spec = tie.close (tie.spec returns returns-2)
+has-two-spec = tie.close (tie.spec number-for-requires returns returns-2)

@@ -1,0 +1,50 @@
+-- `replay::encoding::reply_from` meets its contract: five words are read.
+use mathlib.Core.Path.{refl}
+use native.Mathlib.Omega.{arith}
+use borrow.Author.Needs.{needs}
+use Rattle.replay.specs.Encoding.{serverOffset, openedOffset, invalidatedOffset}
+use Rattle.replay.specs.Replay.{replyFrom}
+use Rattle.replay.proofs.encoding.reply_from.Statement.{statement}
+use Rattle.replay.proofs.encoding.reply_from.Tie as tie
+
+shared-slice-read-t3 : tie.Need-shared-slice-read-t3
+shared-slice-read-t3 c = search needs
+
+shared-slice-read-t5 : tie.Need-shared-slice-read-t5
+shared-slice-read-t5 c = search needs
+
+cast-t6 : tie.Need-cast-t6
+cast-t6 c = omega (arith, c .shared-slice-known2 .given serverOffset)
+
+shared-slice-read-t8 : tie.Need-shared-slice-read-t8
+shared-slice-read-t8 c = search needs
+
+shared-slice-read-t10 : tie.Need-shared-slice-read-t10
+shared-slice-read-t10 c = search needs
+
+cast-t11 : tie.Need-cast-t11
+cast-t11 c = omega (arith, c .shared-slice-known4 .given openedOffset)
+
+shared-slice-read-t13 : tie.Need-shared-slice-read-t13
+shared-slice-read-t13 c = search needs
+
+cast-t14 : tie.Need-cast-t14
+cast-t14 c = omega (arith, c .shared-slice-known5 .given invalidatedOffset)
+
+returns : tie.Need-returns
+unfolding replyFrom
+returns c = refl
+
+pub reply-from-spec : {M : Type 1} → statement M
+reply-from-spec =
+    tie.close
+    (tie.spec
+    shared-slice-read-t3
+    shared-slice-read-t5
+    cast-t6
+    shared-slice-read-t8
+    shared-slice-read-t10
+    cast-t11
+    shared-slice-read-t13
+    cast-t14
+    returns)
