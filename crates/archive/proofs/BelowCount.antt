@@ -42,8 +42,7 @@ use Rattle.invalidation.specs.Marks.{marksFrom}
 use Rattle.deletion.specs.Deletion.{deleteRows, deleteMarks, deleteReply, deleteMedium}
 use Rattle.deletion.proofs.Done.{deleted-some}
 use Rattle.writing.specs.Writing.{target, entryRows, writeRows, writeMarks, writeBurns, writeReply, writeTable, writeMedium}
-use Rattle.writing.proofs.Accepted.{write-accepted}
-use Rattle.writing.proofs.Targets.{target-is}
+use Rattle.writing.proofs.Accepted.{target-is, write-accepted}
 use Rattle.servers.specs.Servers.{addServerRows, addServerReply, addServerTable, reweightRows, reweightReply, reweightTable}
 use Rattle.servers.proofs.Accepted.{addServer-accepted, reweight-accepted}
 use Rattle.batch_answer.proofs.Orders.{batch-cong}

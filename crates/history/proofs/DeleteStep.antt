@@ -24,7 +24,7 @@ use Rattle.deletion.specs.Deletion.{isMet, deleteRows, deleteMarks, deleteReply
 use Rattle.history.specs.Call.{delete, compared}
 use Rattle.history.specs.Ledger.{deleted, Ledger, Standing, usedBy, standing, isStanding, withEvent, deleteRowsL, enter}
 use Rattle.history.proofs.Events.{placeOf}
-use Rattle.history.proofs.Deleting.{afterDelete, delete-holds}
+use Rattle.history.proofs.DeletedMedium.{afterDelete, delete-holds}
 use Rattle.history.proofs.Agree.{Agree, Step, settled, same-ready, ledger-numbered, same-reads, same-marks, same-met}
 
 module _ {t : Table} {m : List ℕ} {L : Ledger} (A : Agree t m L) (id : ℕ) where

@@ -2,9 +2,9 @@ mod Tops
 mod Events
 mod Entering
 mod Holds
-mod Marking
-mod Deleting
-mod Writing
+mod MarkedMedium
+mod DeletedMedium
+mod WrittenMedium
 mod Agree
 mod LookupStep
 mod ReweightStep

@@ -28,8 +28,8 @@ use Rattle.history.specs.LiveRule.{stays, LiveRule}
 use Rattle.history.proofs.Events.{EachWrite, each-none, each-wrote, each-deleted, used-write}
 use Rattle.history.proofs.Entering.{entered}
 use Rattle.history.proofs.Holds.{Holds, write-there}
-use Rattle.history.proofs.Deleting.{afterDelete, borne}
-use Rattle.history.proofs.Writing.{afterWrite, Accepted, new-borne, old-borne}
+use Rattle.history.proofs.DeletedMedium.{afterDelete, borne}
+use Rattle.history.proofs.WrittenMedium.{afterWrite, Accepted, new-borne, old-borne}
 use Rattle.history.proofs.Agree.{Agree, same-target}
 use Rattle.history.proofs.WriteStep.{same-rows as same-write, accepted, write-medium}
 use Rattle.history.proofs.DeleteStep.{same-rows as same-delete, accepted-id, delete-medium}

@@ -31,7 +31,7 @@ use Rattle.writing.proofs.Accepted.{write-accepted}
 use Rattle.history.specs.Call.{write, compared}
 use Rattle.history.specs.Ledger.{wrote, Ledger, told, usedBy, withEvent, writeRowsL, enter}
 use Rattle.history.proofs.Events.{used-self, used-other}
-use Rattle.history.proofs.Writing.{withWords, afterWrite, Accepted, write-holds}
+use Rattle.history.proofs.WrittenMedium.{withWords, afterWrite, Accepted, write-holds}
 use Rattle.history.proofs.Agree.{Agree, Step, settled, same-ready, ledger-numbered, same-target, same-reads, same-marks}
 
 module _ {t : Table} {m : List ℕ} {L : Ledger} (A : Agree t m L) (id value : ℕ) where

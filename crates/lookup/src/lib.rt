@@ -6,7 +6,7 @@ pub use search::lookup_in;
 pub use search::met;
 
 // What a search meets: the server and the entry there, or nothing; and how many servers it opened.
-pub enum Found {
+enum Found {
     At(usize, usize, usize),
     Nowhere(usize),
 }

@@ -19,7 +19,7 @@ use table::Shape;
 use table::Table;
 
 // The entry that a lookup meets, and how many servers it opens.
-pub fn find<'a>(shape: Shape, columns: Columns<'a>, medium: &[u32], id: u32) -> Found
+fn find<'a>(shape: Shape, columns: Columns<'a>, medium: &[u32], id: u32) -> Found
     requires { ⌜ AllInside (shape .capacity) (shape .count) (nth (column columns 1)) (now medium) ⌝ }
     ensures { λ r. ⌜ r ≡ foundBy (searchFor (tableOf shape (columns .entry)) (now (medium .entry)) id) ⌝ }
 {

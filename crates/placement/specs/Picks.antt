@@ -14,6 +14,6 @@ light weights k = leb (nth weights k) maxCapacity
 unfoldable pub bounded : List ℕ → Bool
 bounded weights = leb (length weights) maxServers && allBelow (light weights) (length weights)
 
--- how many ids get their write server: as many as both slices have room for, and none over weights that are not so
+-- how many ids get their write server: as many as both slices have room for, and none where the weights are not bounded so
 unfoldable pub picksOf : List ℕ → List ℕ → List ℕ → ℕ
 picksOf weights ids servers = cond (bounded weights) (min (length ids) (length servers)) 0

@@ -48,7 +48,7 @@ pub fn empty(capacity: u32) -> Table
 }
 
 // Whether a ReadP is in range and at least WriteP.
-pub fn read_sound(read: Fraction, write: Fraction) -> bool
+fn read_sound(read: Fraction, write: Fraction) -> bool
     ensures { λ r. ⌜ r ≡ readSound read write ⌝ }
 {
     if read.den < 1 {

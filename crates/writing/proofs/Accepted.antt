@@ -1,4 +1,4 @@
--- What is known of a write that is accepted.
+-- The write server, and what is known of a write that is accepted.
 -- Assumes nothing.
 use Prim.Native.Nat.{ℕ, _<_}
 use mathlib.Core.Path.{_≡_, refl, sym, ap, _∙_}
@@ -10,9 +10,12 @@ use lib.Dec.{leb, eqb}
 use borrow.Author.Tests.{leb-false, eqb-false, not-false}
 use Rattle.limits.specs.Limits.{contentRange}
 use Rattle.lists.proofs.Tests.{or-false}
+use Rattle.placement.specs.Draw.{modulus, drawOf}
+use Rattle.placement.specs.Rule.{Picked}
+use Rattle.placement.proofs.Rules.{writeServer-is}
 use Rattle.medium.specs.Entry.{entryAt, blankRun, AllInside}
 use Rattle.table.specs.declared.Table.{Table}
-use Rattle.table.specs.Parts.{usedOf}
+use Rattle.table.specs.Parts.{weightOf, usedOf}
 use Rattle.table.specs.Sound.{sound}
 use Rattle.upkeep.specs.Upkeep.{withEntry}
 use Rattle.replies.specs.Refusal.{firstOf}
@@ -21,7 +24,11 @@ use Rattle.replies.proofs.Refusals.{settle-yes, settle-no, passed, passed-both}
 use Rattle.replies.proofs.Answers.{reply-done, reply-number}
 use Rattle.checks.proofs.Passed.{ready-numbered, ready-tests, ready-accepted}
 use Rattle.writing.specs.Writing.{target, entryRows, writeRows, writeReply, writeTable}
-use Rattle.writing.proofs.Targets.{target-is}
+
+-- the write server is the published pick
+pub target-is : (t : Table) (id : ℕ) → 0 < t .count → Picked modulus (drawOf id) (weightOf t) (t .count) (target t id)
+unfolding target
+target-is t id l = writeServer-is (weightOf t) (t .count) id l
 
 -- its numbers are in range, and it goes to a server that is there and has an entry left, which is blank
 pub record WriteAccepted (t : Table) (m : List ℕ) (id value : ℕ) : Type 0 where

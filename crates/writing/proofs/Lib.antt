@@ -1,4 +1,3 @@
-pub mod Targets
 pub mod Accepted
 mod EntryRows
 mod NewEntry

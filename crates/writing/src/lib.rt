@@ -17,7 +17,7 @@ use table::Shape;
 use table::Table;
 
 // What the tests before a write say: the server that it goes to, or the refusal.
-pub enum Plan {
+enum Plan {
     To(usize),
     Refused(Refusal),
 }

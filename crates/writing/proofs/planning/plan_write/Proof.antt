@@ -23,7 +23,7 @@ use Rattle.checks.specs.Ready.{readyRows}
 use Rattle.checks.proofs.Passed.{Ready, ready-numbered, ready-tests, ready-accepted}
 use Rattle.writing.specs.Plan.{planNumber, planServer}
 use Rattle.writing.specs.Writing.{target, entryRows, writeRows}
-use Rattle.writing.proofs.Targets.{target-is}
+use Rattle.writing.proofs.Accepted.{target-is}
 use Rattle.writing.proofs.EntryRows.{entry-full, entry-tested}
 use Rattle.writing.proofs.planning.plan_write.Statement.{statement}
 use Rattle.writing.proofs.planning.plan_write.Tie as tie

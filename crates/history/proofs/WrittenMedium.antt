@@ -25,7 +25,7 @@ use Rattle.history.specs.Ledger.{Event, wrote, usedBy, standing}
 use Rattle.history.proofs.Tops.{Upto, Top, TopAt, top-cong}
 use Rattle.history.proofs.Events.{placeOf, each-wrote, used-self, used-other, used-grows, wrote-self, wrote-other}
 use Rattle.history.proofs.Holds.{Written, Holds, bears-used, Once, once-blank, once-written}
-use Rattle.history.proofs.Marking.{Invalidated, invalidated}
+use Rattle.history.proofs.MarkedMedium.{Invalidated, invalidated}
 
 -- the medium with the value word and the id word in an entry
 abbrev pub withWords : ℕ → List ℕ → ℕ → ℕ → ℕ → ℕ → List ℕ

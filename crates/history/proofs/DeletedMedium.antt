@@ -19,7 +19,7 @@ use Rattle.history.specs.Ledger.{Event, deleted, usedBy, standing}
 use Rattle.history.proofs.Tops.{TopAt, top-cong}
 use Rattle.history.proofs.Events.{placeOf, each-deleted, deleted-self, deleted-other}
 use Rattle.history.proofs.Holds.{Holds, once-written}
-use Rattle.history.proofs.Marking.{Invalidated, invalidated}
+use Rattle.history.proofs.MarkedMedium.{Invalidated, invalidated}
 
 -- the medium with every entry of the id on readable servers invalidated
 abbrev pub afterDelete : ℕ → ℕ → (ℕ → Fraction) → List Event → List ℕ → ℕ → List ℕ
