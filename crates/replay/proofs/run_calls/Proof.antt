@@ -7,9 +7,10 @@ use native.Mathlib.Omega.{arith}
 use borrow.Author.Needs.{needs}
 use lib.ListN.{length}
 use Rattle.history.specs.Machine.{State}
-use Rattle.replay.specs.Encoding.{numberOffset, subjectOffset, amountOffset}
-use Rattle.replay.specs.Replay.{callOf, callWord, callAt}
-use Rattle.replay.proofs.Replaying.{Called, called-as, counts, called-in, called-small, Replayed, none-run, one-run}
+use Rattle.encoding.specs.Encoding.{numberOffset, subjectOffset, amountOffset, callWord}
+use Rattle.encoding.specs.ByNumber.{callOf, callAt}
+use Rattle.encoding.proofs.Calling.{Called, called-as, counts, called-in, called-small}
+use Rattle.replay.proofs.Replaying.{Replayed, none-run, one-run}
 use Rattle.replay.proofs.run_calls.Statement.{statement}
 use Rattle.replay.proofs.run_calls.Tie as tie
 
