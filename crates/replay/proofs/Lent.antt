@@ -15,7 +15,8 @@ use Rattle.servers.specs.Servers.{addServerRows, addServerTable, reweightRows, 
 use Rattle.servers.proofs.Accepted.{addServer-accepted}
 use Rattle.history.specs.Call.{Call, addServer, reweight, write, delete, lookup, batch}
 use Rattle.history.specs.Machine.{State, next, after}
-use Rattle.replay.specs.Replay.{callsBelow, withReplies, roomFor, replyAt}
+use Rattle.encoding.specs.Encoding.{roomFor}
+use Rattle.replay.specs.Replay.{callsBelow, withReplies, replyAt}
 use Rattle.replay.specs.Lent.{lent, resumes}
 
 -- a count below 2^32
@@ -57,7 +58,7 @@ module _ (words m calls replies : List ℕ) where
   none-resumed l = rw (lt-ltb (length words) tableLength l) (refl, (refl, (refl, refl)))
 
   -- all of them, from a table
-  pub all-resumed : (n : ℕ) (begun table : Table) (words′ medium replies′ : List ℕ) → tableLength ≤ length words → n ≡ roomFor calls replies
+  pub all-resumed : (n : ℕ) (begun table : Table) (words′ medium replies′ : List ℕ) → tableLength ≤ length words → n ≡ roomFor (length calls) (length replies)
       → begun ≡ tableFrom words
       → record { table = table; medium = medium } ≡ after (record { table = begun; medium = m }) (callsBelow calls n)
       → replies′ ≡ withReplies (replyAt (record { table = begun; medium = m }) calls) n replies

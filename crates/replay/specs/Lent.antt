@@ -6,7 +6,7 @@ use lib.ListN.{length}
 use lib.Dec.{ltb}
 use Rattle.table.specs.Words.{tableLength, tableFrom}
 use Rattle.history.specs.Machine.{State}
-use Rattle.replay.specs.Replay.{roomFor}
+use Rattle.encoding.specs.Encoding.{roomFor}
 
 -- a lent table over a lent medium
 abbrev pub lent : List ℕ → List ℕ → State
@@ -14,4 +14,4 @@ lent words m = record { table = tableFrom words; medium = m }
 
 -- how many calls are run on it: none where there are too few words for a table
 unfoldable pub resumes : List ℕ → List ℕ → List ℕ → ℕ
-resumes words calls replies = cond (ltb (length words) tableLength) 0 (roomFor calls replies)
+resumes words calls replies = cond (ltb (length words) tableLength) 0 (roomFor (length calls) (length replies))

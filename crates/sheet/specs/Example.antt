@@ -20,7 +20,7 @@ use Rattle.deletion.specs.Deletion.{isMet, deleteRows, deleteMarks, deleteReply
 use Rattle.writing.specs.Writing.{target, entryRows, writeRows, writeMarks, writeBurns, writeReply, writeTable, writeMedium}
 use Rattle.servers.specs.Servers.{startRows, startReply, startTable, addServerRows, addServerReply, addServerTable, reweightRows, reweightReply, reweightTable}
 use Rattle.history.specs.Machine.{reply, next}
-use Rattle.replay.specs.Replay.{callOf, replyTo, nextBy}
+use Rattle.encoding.specs.ByNumber.{callOf, replyTo, nextBy}
 use Rattle.text.specs.Letter.{letters, letterOf, numberFor}
 use Rattle.text.specs.Line.{isDigit, digitRun, valueOf, numberAt, spaced, lineBy, hasTwo, last, first, lineOf}
 use Rattle.text.specs.Print.{digits, decimal, printed, question, answered}

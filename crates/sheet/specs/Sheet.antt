@@ -10,7 +10,7 @@ use Rattle.table.specs.declared.Table.{Table}
 use Rattle.replies.specs.Refusal.{settle}
 use Rattle.servers.specs.Servers.{startRows, startReply, startTable}
 use Rattle.history.specs.Machine.{State}
-use Rattle.replay.specs.Replay.{callOf, replyTo, nextBy}
+use Rattle.encoding.specs.ByNumber.{callOf, replyTo, nextBy}
 use Rattle.text.specs.declared.Line.{Line}
 use Rattle.text.specs.declared.Line.the-variants as line
 use Rattle.text.specs.Letter.{startLetter}

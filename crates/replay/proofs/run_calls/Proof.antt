@@ -1,15 +1,16 @@
 -- `replay::run_calls` meets its contract. The invariant: the calls passed are run, as `Replayed` says.
 use Prim.Native.Nat.{ℕ, _-_, _≤_}
 use mathlib.Core.Path.{_≡_, ap, _∙_}
-use mathlib.Core.Logic.{⊎-elim}
+use mathlib.Core.Logic.{inl, inr}
 use mathlib.Core.List.{List}
 use native.Mathlib.Omega.{arith}
 use borrow.Author.Needs.{needs}
 use lib.ListN.{length}
 use Rattle.history.specs.Machine.{State}
-use Rattle.replay.specs.Encoding.{numberOffset, subjectOffset, amountOffset}
-use Rattle.replay.specs.Replay.{callOf, callWord, callAt}
-use Rattle.replay.proofs.Replaying.{Called, called-as, counts, called-in, called-small, Replayed, none-run, one-run}
+use Rattle.encoding.specs.Encoding.{numberOffset, subjectOffset, amountOffset, callWord}
+use Rattle.encoding.specs.ByNumber.{callOf, callAt}
+use Rattle.encoding.proofs.Calling.{Called, called-as, counts, called-in, called-small}
+use Rattle.replay.proofs.Replaying.{Replayed, none-run, one-run}
 use Rattle.replay.proofs.run_calls.Statement.{statement}
 use Rattle.replay.proofs.run_calls.Tie as tie
 
@@ -91,14 +92,14 @@ CalledHere c = let l = L (c .before) in Called (S l) (callOf (number l) (subject
 called-here : (c : tie.Joined1 Inv-loop μ-loop) → CalledHere c
 called-here c =
     let l = L (c .before) in
-    ⊎-elim {C = CalledHere c}
-    (λ w. called-as (S l) _ (w .9) (w .8) (w .7) (w .2 .ensures))
-    (λ w. called-as (S l) _ (w .14) (w .13) (w .12)
-    (called-in (S l) (number l) (subject l) (amount l) (w .7 .result) (w .7 .ensures .0) _ _ (λ e. omega (arith, w .0 .left)) (λ e. omega (arith, w .0 .left)) (w .11 .ensures) (w .7 .ensures .1)))
-    (c .if1 .came)
+    elim (c .if1 .came) [
+      | inl w ↦ called-as (S l) _ (w .9) (w .8) (w .7) (w .2 .ensures)
+      | inr w ↦ called-as (S l) _ (w .14) (w .13) (w .12)
+          (called-in (S l) (number l) (subject l) (amount l) (w .7 .result) (w .7 .ensures .0) _ _ (λ e. omega (arith, w .0 .left)) (λ e. omega (arith, w .0 .left)) (w .11 .ensures) (w .7 .ensures .1))
+    ]
 
 kept-here : (c : tie.Joined1 Inv-loop μ-loop) → length (c .if1 .medium) ≡ length (L (c .before) .loop .medium)
-kept-here c = ⊎-elim (λ w. ap length (w .7) ∙ w .2 .kept .1 .0) (λ w. ap length (w .12) ∙ w .7 .kept .1 .1 .0) (c .if1 .came)
+kept-here c = elim (c .if1 .came) [ inl w ↦ ap length (w .7) ∙ w .2 .kept .1 .0 | inr w ↦ ap length (w .12) ∙ w .7 .kept .1 .1 .0 ]
 
 store-requires : tie.Need-store-requires Inv-loop μ-loop
 store-requires c κs = let j = c .before in (search needs, called-small _ _ (j .if1 .reply) (called-here j .0))

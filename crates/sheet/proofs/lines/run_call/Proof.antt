@@ -2,7 +2,7 @@
 use mathlib.Core.Path.{refl}
 use borrow.Author.Needs.{needs}
 use borrow.Author.Tests.{not-true, not-false}
-use Rattle.replay.proofs.Replaying.{called-small}
+use Rattle.encoding.proofs.Calling.{called-small}
 use Rattle.sheet.specs.Sheet.{sheetOf}
 use Rattle.sheet.proofs.Running.{shown, asked, too-early, call-run}
 use Rattle.sheet.proofs.lines.run_call.Statement.{statement}

@@ -1,12 +1,12 @@
--- `replay::run_change` meets its contract: a return for call 1, for call 2, and for what is no call.
+-- `encoding::run_change` meets its contract: a return for call 1, for call 2, and for what is no call.
 use mathlib.Core.Path.{refl, _∙_}
 use native.Mathlib.Omega.{arith}
 use borrow.Author.Needs.{needs}
 use Rattle.history.specs.Machine.{reply, next}
-use Rattle.replay.specs.Replay.{callOf, replyTo, nextBy}
-use Rattle.replay.proofs.Replaying.{no-call}
-use Rattle.replay.proofs.run_change.Statement.{statement}
-use Rattle.replay.proofs.run_change.Tie as tie
+use Rattle.encoding.specs.ByNumber.{callOf, replyTo, nextBy}
+use Rattle.encoding.proofs.Calling.{no-call}
+use Rattle.encoding.proofs.run_change.Statement.{statement}
+use Rattle.encoding.proofs.run_change.Tie as tie
 
 add-server-requires : tie.Need-add-server-requires
 add-server-requires c κs = search needs

@@ -1,11 +1,10 @@
--- `replay::encoding::reply_from` meets its contract: five words are read.
+-- `encoding::words::reply_from` meets its contract: five words are read.
 use mathlib.Core.Path.{refl}
 use native.Mathlib.Omega.{arith}
 use borrow.Author.Needs.{needs}
-use Rattle.replay.specs.Encoding.{serverOffset, openedOffset, invalidatedOffset}
-use Rattle.replay.specs.Replay.{replyFrom}
-use Rattle.replay.proofs.encoding.reply_from.Statement.{statement}
-use Rattle.replay.proofs.encoding.reply_from.Tie as tie
+use Rattle.encoding.specs.Encoding.{serverOffset, openedOffset, invalidatedOffset, replyFrom}
+use Rattle.encoding.proofs.words.reply_from.Statement.{statement}
+use Rattle.encoding.proofs.words.reply_from.Tie as tie
 
 shared-slice-read-t3 : tie.Need-shared-slice-read-t3
 shared-slice-read-t3 c = search needs

@@ -12,7 +12,11 @@
 --
 -- A call's number says which of its words count, and no other is read. No call reads its words 1 and 4 to 7 yet, and word 3
 -- of every reply is 0. All eight words of a reply are written, a 0 where it carries nothing.
-use Prim.Native.Nat.{ℕ}
+use Prim.Native.Nat.{ℕ, _+_, _*_, _/_, min}
+use mathlib.Core.List.{List}
+use lib.ListN.{set}
+use Rattle.lists.specs.Below.{nth}
+use Rattle.replies.specs.declared.Reply.{Reply}
 
 -- how many words a call has, and where those stand in it that are read
 abbrev pub callLength : ℕ
@@ -55,3 +59,37 @@ spareOffset = 6
 
 abbrev pub lastOffset : ℕ
 lastOffset = 7
+
+-- as many calls as slices of these lengths both have room for
+abbrev pub roomFor : ℕ → ℕ → ℕ
+roomFor calls replies = min (calls / callLength) (replies / replyLength)
+
+-- word k of call i, and of reply i
+abbrev pub callWord : List ℕ → ℕ → ℕ → ℕ
+callWord words i k = nth words (callLength * i + k)
+
+abbrev pub replyWord : List ℕ → ℕ → ℕ → ℕ
+replyWord words i k = nth words (replyLength * i + k)
+
+-- the eight words of reply i
+unfoldable pub withReply : List ℕ → ℕ → Reply → List ℕ
+withReply words i r =
+    let at = replyLength * i in
+    let refusal = set words (at + refusalOffset) (r .refusal) in
+    let server = set refusal (at + serverOffset) (r .server) in
+    let value = set server (at + valueOffset) (r .value) in
+    let high = set value (at + highOffset) 0 in
+    let opened = set high (at + openedOffset) (r .opened) in
+    let invalidated = set opened (at + invalidatedOffset) (r .invalidated) in
+    let spare = set invalidated (at + spareOffset) 0 in
+    set spare (at + lastOffset) 0
+
+-- the reply of eight words
+unfoldable pub replyFrom : List ℕ → Reply
+replyFrom words = record {
+  refusal = nth words refusalOffset;
+  server = nth words serverOffset;
+  value = nth words valueOffset;
+  opened = nth words openedOffset;
+  invalidated = nth words invalidatedOffset;
+}

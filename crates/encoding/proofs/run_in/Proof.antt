@@ -1,11 +1,11 @@
--- `replay::run_in` meets its contract: a return for each number.
+-- `encoding::run_in` meets its contract: a return for each number.
 use mathlib.Core.Path.{refl}
 use borrow.Author.Needs.{needs}
 use Rattle.history.specs.Machine.{reply, next}
-use Rattle.replay.specs.Replay.{callOf, replyTo, nextBy}
-use Rattle.replay.proofs.Replaying.{no-call}
-use Rattle.replay.proofs.run_in.Statement.{statement}
-use Rattle.replay.proofs.run_in.Tie as tie
+use Rattle.encoding.specs.ByNumber.{callOf, replyTo, nextBy}
+use Rattle.encoding.proofs.Calling.{no-call}
+use Rattle.encoding.proofs.run_in.Statement.{statement}
+use Rattle.encoding.proofs.run_in.Tie as tie
 
 write-in-requires : tie.Need-write-in-requires
 write-in-requires c κs = search needs

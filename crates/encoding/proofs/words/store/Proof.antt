@@ -1,11 +1,11 @@
--- `replay::encoding::store` meets its contract: eight stores.
+-- `encoding::words::store` meets its contract: eight stores.
 use mathlib.Core.Path.{refl}
 use native.Mathlib.Omega.{arith}
 use borrow.Author.Needs.{needs}
 use lib.ListN.{length-set}
-use Rattle.replay.specs.Replay.{withReply}
-use Rattle.replay.proofs.encoding.store.Statement.{statement}
-use Rattle.replay.proofs.encoding.store.Tie as tie
+use Rattle.encoding.specs.Encoding.{withReply}
+use Rattle.encoding.proofs.words.store.Statement.{statement}
+use Rattle.encoding.proofs.words.store.Tie as tie
 
 mul-at : tie.Need-mul-at
 mul-at c = search needs

@@ -1,9 +1,8 @@
-// Calls and replies as words. specs/Encoding.antt says which word is which.
+// The words of calls and replies: how many fit, and a reply stored and read back. specs/Encoding.antt says which word is which.
 ghost use mathlib.Core.Path.{_≡_};
-ghost use Prim.Native.Nat.{_<_, _≤_, _+_, _*_, _/_, min};
+ghost use Prim.Native.Nat.{_<_, _≤_, _+_, _*_};
 ghost use lib.ListN.{length};
-ghost use Rattle.replay.specs.Encoding.{callLength, replyLength};
-ghost use Rattle.replay.specs.Replay.{withReply, replyFrom};
+ghost use Rattle.encoding.specs.Encoding.{replyLength, roomFor, withReply, replyFrom};
 use replies::Reply;
 
 // How many words a call has, and where those stand that are read.
@@ -36,7 +35,7 @@ const LAST_OFFSET: usize = 7;
 
 // How many encoded calls slices of these lengths have room for.
 pub fn room(calls: usize, replies: usize) -> usize
-    ensures { λ r. ⌜ r ≡ min (calls / callLength) (replies / replyLength) ⌝ }
+    ensures { λ r. ⌜ r ≡ roomFor calls replies ⌝ }
 {
     lists::lesser(calls / CALL_LENGTH, replies / REPLY_LENGTH)
 }

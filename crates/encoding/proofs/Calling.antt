@@ -1,0 +1,103 @@
+-- One call by its number: its reply, the table and the medium after it, and that its reply fits words.
+-- Assumes nothing.
+use Prim.Native.Nat.{ℕ, _<_}
+use mathlib.Core.Path.{_≡_, sym, ap, _∙_}
+use mathlib.Core.Logic.{_≢_}
+use mathlib.Core.List.{List}
+use mathlib.Core.Option.{Option, none, some}
+use native.Mathlib.Omega.{arith}
+use lib.Dec.{eqb}
+use borrow.Author.Tests.{eqb-true, eqb-false, ne-eqb}
+use Rattle.lists.proofs.Tests.{byBool}
+use Rattle.table.specs.declared.Table.{Table}
+use Rattle.table.specs.Parts.{usedOf}
+use Rattle.upkeep.specs.Upkeep.{withEntry}
+use Rattle.table.proofs.Soundness.{sound-facts}
+use Rattle.replies.specs.Number.{addServerNumber, reweightNumber, writeNumber, deleteNumber, lookupNumber}
+use Rattle.replies.specs.declared.Reply.{Reply}
+use Rattle.writing.specs.Writing.{writeReply, writeTable}
+use Rattle.writing.proofs.Accepted.{Filed, filed, table-kept}
+use Rattle.archive.proofs.Small.{Small, addServer-small, reweight-small, write-small, delete-small, lookup-small}
+use Rattle.history.specs.Call.{Call, addServer, reweight, write, delete, lookup, batch}
+use Rattle.history.specs.Machine.{State, reply, next}
+use Rattle.encoding.specs.ByNumber.{callOf, replyTo, nextBy, usedAfter}
+
+-- the reply, the table and the medium of one call
+abbrev pub Called : State → Option Call → Reply → Table → List ℕ → Type 0
+Called S o r table medium = (r ≡ replyTo S o) × ((table ≡ nextBy S o .table) × (medium ≡ nextBy S o .medium))
+
+-- the same of variables that are set to these
+pub called-as : (S : State) (o : Option Call) {r r′ : Reply} {table table′ : Table} {medium medium′ : List ℕ} → r′ ≡ r → table′ ≡ table → medium′ ≡ medium
+    → Called S o r table medium → Called S o r′ table′ medium′
+called-as S o x y z c = (x ∙ c .0, (y ∙ c .1 .0, z ∙ c .1 .1))
+
+-- a number that is no call
+pub no-call : (number subject amount : ℕ) → number ≢ addServerNumber → number ≢ reweightNumber → number ≢ writeNumber → number ≢ deleteNumber → number ≢ lookupNumber → callOf number subject amount ≡ none
+unfolding callOf
+no-call number subject amount a b c d e = rw (ne-eqb number addServerNumber a, ne-eqb number reweightNumber b, ne-eqb number writeNumber c, ne-eqb number deleteNumber d, ne-eqb number lookupNumber e)
+
+-- a table with other used entries
+abbrev pub withUsed : Table → List ℕ → Table
+withUsed t used = record {
+  capacity = t .capacity;
+  count = t .count;
+  weights = t .weights;
+  used = used;
+  numerators = t .numerators;
+  denominators = t .denominators;
+}
+
+module _ (S : State) (number subject amount : ℕ) where
+  -- the table after a write, and after delete, lookup or no call
+  written-table : number ≡ writeNumber → writeTable (S .table) (S .medium) subject amount ≡ nextBy S (callOf number subject amount) .table
+  unfolding callOf nextBy next
+  written-table d = rw d
+
+  same-table : number ≢ addServerNumber → number ≢ reweightNumber → number ≢ writeNumber → nextBy S (callOf number subject amount) .table ≡ S .table
+  unfolding callOf nextBy next
+  same-table a b c = rw (ne-eqb number addServerNumber a, ne-eqb number reweightNumber b, ne-eqb number writeNumber c)
+      (byBool (eqb number deleteNumber) (λ d. rw d) (λ d. rw d (byBool (eqb number lookupNumber) (λ d. rw d) (λ d. rw d))))
+
+  -- by its reply: whether and where an entry is counted, and the table with it
+  module _ (r : Reply) (e : r ≡ replyTo S (callOf number subject amount)) where
+    written-here : number ≡ writeNumber → r ≡ writeReply (S .table) (S .medium) subject amount
+    unfolding callOf replyTo reply
+    written-here d = e ∙ rw d
+
+    filed-here : number ≡ writeNumber → r .refusal ≡ 0 → Filed (S .table) (S .medium) subject amount (r .server)
+    filed-here d z = filed (S .table) (S .medium) subject amount r (written-here d) z
+
+    pub counts : number ≡ writeNumber → r .refusal ≡ 0 → (r .server < 256) × (usedOf (S .table) (r .server) < 65536)
+    counts d z =
+        let f = filed-here d z in
+        let s = sound-facts (S .table) (f .isSound) in
+        (omega arith, omega arith)
+
+    counted : (used : List ℕ) → number ≢ addServerNumber → number ≢ reweightNumber → used ≡ usedAfter (S .table .used) number r
+        → withUsed (S .table) used ≡ nextBy S (callOf number subject amount) .table
+    unfolding usedAfter withEntry
+    counted used a b u = ap (withUsed (S .table)) u ∙ byBool (eqb number writeNumber)
+        (λ d.
+        let is = eqb-true number writeNumber d in
+        rw d (byBool (eqb (r .refusal) 0)
+        (λ z. rw z (filed-here is (eqb-true (r .refusal) 0 z) .table ∙ written-table is))
+        (λ z. rw z (table-kept (S .table) (S .medium) subject amount r (written-here is) (eqb-false (r .refusal) 0 z) ∙ written-table is))))
+        (λ d. rw d (sym (same-table a b (eqb-false number writeNumber d))))
+
+    pub called-in : (used medium : List ℕ) → number ≢ addServerNumber → number ≢ reweightNumber → used ≡ usedAfter (S .table .used) number r
+        → medium ≡ nextBy S (callOf number subject amount) .medium → Called S (callOf number subject amount) r (withUsed (S .table) used) medium
+    called-in used medium a b u d = (e, (counted used a b u, d))
+
+-- what the code stores of its reply as a cast fits a word
+replyTo-small : (S : State) (o : Option Call) → Small (replyTo S o)
+unfolding replyTo reply
+replyTo-small S none = record { server = omega arith; opened = omega arith; invalidated = omega arith }
+replyTo-small S (some (addServer weight)) = addServer-small (S .table) (S .medium) weight
+replyTo-small S (some (reweight server weight)) = reweight-small (S .table) server weight
+replyTo-small S (some (write id value)) = write-small (S .table) (S .medium) id value
+replyTo-small S (some (delete id)) = delete-small (S .table) (S .medium) id
+replyTo-small S (some (lookup id)) = lookup-small (S .table) (S .medium) id
+replyTo-small S (some (batch ids)) = record { server = omega arith; opened = omega arith; invalidated = omega arith }
+
+pub called-small : (S : State) (o : Option Call) (r : Reply) → r ≡ replyTo S o → (r .server < 4294967296) × (r .opened < 4294967296) × (r .invalidated < 4294967296)
+called-small S o r e = let s : Small r = rw e (replyTo-small S o) in (s .server, s .opened, s .invalidated)
