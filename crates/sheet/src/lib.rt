@@ -13,13 +13,13 @@ use table::Table;
 pub const MAX_INPUT: usize = 65536;
 
 // The table in use, once a start was accepted; before that the table counts for nothing.
-pub struct InUse {
+struct InUse {
     pub started: bool,
     pub table: Table,
 }
 
 // The position after what a line printed, and the table in use after it.
-pub struct Ran {
+struct Ran {
     pub next: usize,
     pub in_use: InUse,
 }
