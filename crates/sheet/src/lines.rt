@@ -60,7 +60,7 @@ fn run_start(in_use: InUse, medium: &mut [u32], capacity: u32, out: &mut [u8], a
     }
 }
 
-// A call of replay's number; before the first accepted S it is not run.
+// A call by its number; before the first accepted S it is not run.
 fn run_call(
     in_use: InUse,
     medium: &mut [u32],
