@@ -8,7 +8,7 @@ use lib.ListN.{length, set, replicate, length-set}
 use lib.Seq.{getD-set-same, getD-set-other}
 use Rattle.lists.specs.Below.{nth}
 use Rattle.replies.specs.declared.Reply.{Reply}
-use Rattle.encoding.specs.Encoding.{replyLength, refusalOffset, serverOffset, valueOffset, highOffset, openedOffset, invalidatedOffset, spareOffset, lastOffset, replyWord, withReply, replyFrom}
+use Rattle.encoding.specs.Encoding.{replyLength, refusalOffset, serverOffset, valueOffset, highOffset, openedOffset, invalidatedOffset, spareOffset, lastOffset, replyWord, withReplyAt, withReply, replyFrom}
 
 -- the words of reply i that are compared
 pub record Stored (words : List ℕ) (i : ℕ) (r : Reply) : Type 0 where
@@ -20,7 +20,7 @@ pub record Stored (words : List ℕ) (i : ℕ) (r : Reply) : Type 0 where
 -- a reply's eight words
 module _ (words : List ℕ) (n : ℕ) (r : Reply) where
   pub length-withReply : length (withReply words n r) ≡ length words
-  unfolding withReply
+  unfolding withReplyAt
   length-withReply = simp length-set
 
   -- where they begin; the words with the first of them, the first two and so on
@@ -50,7 +50,7 @@ module _ (words : List ℕ) (n : ℕ) (r : Reply) where
 
   -- a word below the next is as they leave it
   below₅ : (a : ℕ) → a < from + invalidatedOffset → nth (withReply words n r) a ≡ nth w₅ a
-  unfolding withReply
+  unfolding withReplyAt
   below₅ a l =
       getD-set-other w₇ (from + lastOffset) a 0 0 (λ e. omega arith)
       ∙ getD-set-other w₆ (from + spareOffset) a 0 0 (λ e. omega arith)
@@ -89,5 +89,5 @@ module _ (words : List ℕ) (n : ℕ) (r : Reply) where
 
 -- a reply that is stored over zeros is read back as it was
 pub reply-back : (r : Reply) → replyFrom (withReply (replicate replyLength 0) 0 r) ≡ r
-unfolding replyFrom withReply
+unfolding replyFrom withReplyAt
 reply-back r = refl

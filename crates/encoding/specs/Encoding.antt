@@ -71,10 +71,9 @@ callWord words i k = nth words (callLength * i + k)
 abbrev pub replyWord : List ℕ → ℕ → ℕ → ℕ
 replyWord words i k = nth words (replyLength * i + k)
 
--- the eight words of reply i
-unfoldable pub withReply : List ℕ → ℕ → Reply → List ℕ
-withReply words i r =
-    let at = replyLength * i in
+-- the eight words of a reply that begins at a word
+unfoldable pub withReplyAt : List ℕ → ℕ → Reply → List ℕ
+withReplyAt words at r =
     let refusal = set words (at + refusalOffset) (r .refusal) in
     let server = set refusal (at + serverOffset) (r .server) in
     let value = set server (at + valueOffset) (r .value) in
@@ -83,6 +82,10 @@ withReply words i r =
     let invalidated = set opened (at + invalidatedOffset) (r .invalidated) in
     let spare = set invalidated (at + spareOffset) 0 in
     set spare (at + lastOffset) 0
+
+-- the words of reply i
+abbrev pub withReply : List ℕ → ℕ → Reply → List ℕ
+withReply words i r = withReplyAt words (replyLength * i) r
 
 -- the reply of eight words
 unfoldable pub replyFrom : List ℕ → Reply

@@ -1,8 +1,8 @@
 // The words of calls and replies: how many fit, and a reply stored and read back. specs/Encoding.antt says which word is which.
 ghost use mathlib.Core.Path.{_≡_};
-ghost use Prim.Native.Nat.{_<_, _≤_, _+_, _*_};
+ghost use Prim.Native.Nat.{_<_, _≤_, _+_};
 ghost use lib.ListN.{length};
-ghost use Rattle.encoding.specs.Encoding.{replyLength, roomFor, withReply, replyFrom};
+ghost use Rattle.encoding.specs.Encoding.{replyLength, roomFor, withReplyAt, replyFrom};
 use replies::Reply;
 
 // How many words a call has, and where those stand that are read.
@@ -40,13 +40,12 @@ pub fn room(calls: usize, replies: usize) -> usize
     lists::lesser(calls / CALL_LENGTH, replies / REPLY_LENGTH)
 }
 
-// Stores the eight words of a reply.
-pub fn store(replies: &mut [u32], i: usize, reply: Reply)
-    requires { ⌜ replyLength * i + replyLength ≤ length (now replies) ⌝ }
+// Stores the eight words of a reply, from a word on.
+pub fn store(replies: &mut [u32], at: usize, reply: Reply)
+    requires { ⌜ at + replyLength ≤ length (now replies) ⌝ }
     requires { ⌜ (reply .server < 4294967296) × (reply .opened < 4294967296) × (reply .invalidated < 4294967296) ⌝ }
-    ensures { λ _. ⌜ now (replies .exit) ≡ withReply (now (replies .entry)) i reply ⌝ }
+    ensures { λ _. ⌜ now (replies .exit) ≡ withReplyAt (now (replies .entry)) at reply ⌝ }
 {
-    let at = REPLY_LENGTH * i;
     replies[at + REFUSAL_OFFSET] = reply.refusal;
     replies[at + SERVER_OFFSET] = reply.server as u32;
     replies[at + VALUE_OFFSET] = reply.value;

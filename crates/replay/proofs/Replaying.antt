@@ -29,7 +29,7 @@ use Rattle.history.specs.Machine.{State, after, begin}
 use Rattle.history.specs.Ledger.{opening, ledgerAfter}
 use Rattle.history.proofs.Unaltered.{after-append}
 use Rattle.history.proofs.Run.{begin-agrees, step, run}
-use Rattle.encoding.specs.Encoding.{callLength, numberOffset, subjectOffset, amountOffset, replyLength, roomFor, withReply, replyFrom}
+use Rattle.encoding.specs.Encoding.{callLength, numberOffset, subjectOffset, amountOffset, replyLength, roomFor, withReplyAt, withReply, replyFrom}
 use Rattle.encoding.specs.ByNumber.{callOf, callAt, replyTo, nextBy}
 use Rattle.encoding.proofs.Calling.{Called}
 use Rattle.encoding.proofs.Storing.{Stored, length-withReply, stored-here, stored-below, reply-back}
@@ -130,6 +130,30 @@ module _ (S : State) (calls words : List ℕ) where
         ∙ sym (replies-more (replyAt S calls) i words);
     sameMedium = l ∙ d .sameMedium;
     sameReplies = ap length e ∙ length-withReply replies i r ∙ d .sameReplies;
+  }
+
+-- the calls before the word at are run, of n
+pub record ReplayedTo (S : State) (calls words : List ℕ) (n at : ℕ) (table : Table) (medium replies : List ℕ) : Type 0 where
+  pub index : ℕ
+  pub begins : at ≡ callLength * index
+  pub few : index ≤ n
+  pub done : Replayed S calls words index table medium replies
+
+module _ (S : State) (calls words : List ℕ) (n : ℕ) where
+  pub none-to : ReplayedTo S calls words n 0 (S .table) (S .medium) words
+  none-to = record { index = 0; begins = refl; few = omega arith; done = none-run S calls words }
+
+  pub one-to : (at : ℕ) (table table′ : Table) (medium medium′ replies replies′ : List ℕ) (r : Reply)
+      → ReplayedTo S calls words n at table medium replies → at < callLength * n
+      → Called (record { table = table; medium = medium }) (callOf (nth calls (at + numberOffset)) (nth calls (at + subjectOffset)) (nth calls (at + amountOffset))) r table′ medium′
+      → length medium′ ≡ length medium → replies′ ≡ withReplyAt replies at r
+      → ReplayedTo S calls words n (at + callLength) table′ medium′ replies′
+  unfolding callAt
+  one-to at table table′ medium medium′ replies replies′ r d b c l e = record {
+    index = d .index + 1;
+    begins = omega (arith, d .begins);
+    few = omega (arith, d .begins);
+    done = one-run S calls words (d .index) table table′ medium medium′ replies replies′ r (d .done) (rw (d .begins) at c) l (e ∙ ap (λ (a : ℕ). withReplyAt replies a r) (d .begins));
   }
 
 -- what `replay` ensures where it answers n

@@ -20,7 +20,8 @@ use replies::WRITE;
 use table::Shape;
 use table::Table;
 
-// Runs the first `n` encoded calls on a table, which stays in one place: only add_server and reweight take it by value.
+// Runs the first `n` encoded calls on a table, which stays in one place: only add_server and reweight take it by value. A call
+// and its reply have as many words, so both begin at the same word.
 fn run_calls(
     table: Table,
     calls: &[u32],
@@ -32,10 +33,10 @@ fn run_calls(
     ensures state { λ r. ⌜ record { table = r; medium = now (medium .exit) } ≡ after (record { table = table; medium = now (medium .entry) }) (callsBelow (now (calls .entry)) n) ⌝ }
     ensures replies { λ _. ⌜ now (replies .exit) ≡ withReplies (replyAt (record { table = table; medium = now (medium .entry) }) (now (calls .entry))) n (now (replies .entry)) ⌝ }
 {
+    let end = CALL_LENGTH * n;
     let mut next = table;
-    let mut i: usize = 0;
-    while i < n {
-        let at = CALL_LENGTH * i;
+    let mut at: usize = 0;
+    while at < end {
         let number = calls[at + NUMBER_OFFSET];
         let subject = calls[at + SUBJECT_OFFSET];
         let amount = calls[at + AMOUNT_OFFSET];
@@ -63,8 +64,8 @@ fn run_calls(
             encoding::count_write(&mut next.used, number, lent);
             lent
         };
-        encoding::store(replies, i, reply);
-        i += 1;
+        encoding::store(replies, at, reply);
+        at += CALL_LENGTH;
     }
     next
 }

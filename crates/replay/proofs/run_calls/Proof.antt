@@ -1,31 +1,32 @@
--- `replay::run_calls` meets its contract. The invariant: the calls passed are run, as `Replayed` says.
-use Prim.Native.Nat.{ℕ, _-_, _≤_}
+-- `replay::run_calls` meets its contract. The invariant: the calls before the word reached are run, as `ReplayedTo` says.
+use Prim.Native.Nat.{ℕ, _+_, _*_, _-_}
 use mathlib.Core.Path.{_≡_, ap, _∙_}
 use mathlib.Core.Logic.{inl, inr}
 use mathlib.Core.List.{List}
 use native.Mathlib.Omega.{arith}
 use borrow.Author.Needs.{needs}
 use lib.ListN.{length}
+use Rattle.lists.specs.Below.{nth}
 use Rattle.history.specs.Machine.{State}
-use Rattle.encoding.specs.Encoding.{numberOffset, subjectOffset, amountOffset, callWord}
-use Rattle.encoding.specs.ByNumber.{callOf, callAt}
+use Rattle.encoding.specs.Encoding.{callLength, numberOffset, subjectOffset, amountOffset}
+use Rattle.encoding.specs.ByNumber.{callOf}
 use Rattle.encoding.proofs.Calling.{Called, called-as, counts, called-in, called-small}
-use Rattle.replay.proofs.Replaying.{Replayed, none-run, one-run}
+use Rattle.replay.proofs.Replaying.{ReplayedTo, none-to, one-to}
 use Rattle.replay.proofs.run_calls.Statement.{statement}
 use Rattle.replay.proofs.run_calls.Tie as tie
 
 abbrev Inv-loop : tie.InvT-loop
-Inv-loop calls medium₀ replies₀ n next₀ i₀ medium replies next i =
-    (i ≤ n) × Replayed (record { table = next₀; medium = medium₀ }) calls replies₀ i next medium replies
+Inv-loop calls medium₀ replies₀ n end next₀ at₀ medium replies next at =
+    (end ≡ callLength * n) × ReplayedTo (record { table = next₀; medium = medium₀ }) calls replies₀ n at next medium replies
 
 abbrev μ-loop : tie.MeasureT-loop
-μ-loop calls medium₀ replies₀ n next₀ i₀ medium replies next i = n - i
+μ-loop calls medium₀ replies₀ n end next₀ at₀ medium replies next at = end - at
+
+mul-end : tie.Need-mul-end Inv-loop μ-loop
+mul-end c = search needs
 
 loop-holds : tie.Need-loop-holds Inv-loop μ-loop
-loop-holds c = (search needs, none-run _ _ _)
-
-mul-at : tie.Need-mul-at Inv-loop μ-loop
-mul-at c = search needs
+loop-holds c = (search needs, none-to _ _ _ _)
 
 add-number : tie.Need-add-number Inv-loop μ-loop
 add-number c = search needs
@@ -68,13 +69,13 @@ abbrev calls : tie.At-loop Inv-loop μ-loop → List ℕ
 calls l = l .before .before .before .before .args .calls .now
 
 abbrev number : tie.At-loop Inv-loop μ-loop → ℕ
-number l = callWord (calls l) (l .loop .i) numberOffset
+number l = nth (calls l) (l .loop .at + numberOffset)
 
 abbrev subject : tie.At-loop Inv-loop μ-loop → ℕ
-subject l = callWord (calls l) (l .loop .i) subjectOffset
+subject l = nth (calls l) (l .loop .at + subjectOffset)
 
 abbrev amount : tie.At-loop Inv-loop μ-loop → ℕ
-amount l = callWord (calls l) (l .loop .i) amountOffset
+amount l = nth (calls l) (l .loop .at + amountOffset)
 
 run-in-requires : tie.Need-run-in-requires Inv-loop μ-loop
 run-in-requires c κs = (λ e. omega arith, λ e. omega arith)
@@ -104,19 +105,18 @@ kept-here c = elim (c .if1 .came) [ inl w ↦ ap length (w .7) ∙ w .2 .kept .1
 store-requires : tie.Need-store-requires Inv-loop μ-loop
 store-requires c κs = let j = c .before in (search needs, called-small _ _ (j .if1 .reply) (called-here j .0))
 
-add-i : tie.Need-add-i Inv-loop μ-loop
-add-i c = search needs
+add-at : tie.Need-add-at Inv-loop μ-loop
+add-at c = search needs
 
 loop-less : tie.Need-loop-less Inv-loop μ-loop
 loop-less c = search needs
 
 loop-again : tie.Need-loop-again Inv-loop μ-loop
-unfolding callAt
 loop-again c =
     let s = c .before .before in
     let j = s .before .before in
     let l = L (j .before) in
-    (search needs, one-run _ _ _ (l .loop .i) (l .loop .next) _ (l .loop .medium) _ (l .loop .replies) _ _ (l .loop .inv .1) (called-here j) (kept-here j) (s .store .ensures))
+    (l .loop .inv .0, one-to _ _ _ _ (l .loop .at) (l .loop .next) _ (l .loop .medium) _ (l .loop .replies) _ _ (l .loop .inv .1) (search needs) (called-here j) (kept-here j) (s .store .ensures))
 
 same-length : tie.Need-same-length Inv-loop μ-loop
 same-length c = search needs
@@ -127,8 +127,9 @@ same-length-2 c = search needs
 returns : tie.Need-returns Inv-loop μ-loop
 returns c =
     let l = c .before in
-    let e : l .loop .i ≡ l .before .before .before .before .args .n = omega arith in
-    rw (← e) (l .loop .inv .1 .state, l .loop .inv .1 .stored)
+    let d = l .loop .inv .1 in
+    let e : d .index ≡ l .before .before .before .before .args .n = omega (arith, d .begins, d .few) in
+    rw (← e) (d .done .state, d .done .stored)
 
 pub run-calls-spec : {M : Type 1} → statement M
 run-calls-spec =
@@ -136,8 +137,8 @@ run-calls-spec =
     (tie.spec
     Inv-loop
     μ-loop
+    mul-end
     loop-holds
-    mul-at
     add-number
     mul-number
     shared-slice-read-number
@@ -151,7 +152,7 @@ run-calls-spec =
     run-in-requires
     count-write-requires
     store-requires
-    add-i
+    add-at
     loop-less
     loop-again
     same-length

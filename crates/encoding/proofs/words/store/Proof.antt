@@ -3,12 +3,9 @@ use mathlib.Core.Path.{refl}
 use native.Mathlib.Omega.{arith}
 use borrow.Author.Needs.{needs}
 use lib.ListN.{length-set}
-use Rattle.encoding.specs.Encoding.{withReply}
+use Rattle.encoding.specs.Encoding.{withReplyAt}
 use Rattle.encoding.proofs.words.store.Statement.{statement}
 use Rattle.encoding.proofs.words.store.Tie as tie
-
-mul-at : tie.Need-mul-at
-mul-at c = search needs
 
 add-replies : tie.Need-add-replies
 add-replies c = search needs
@@ -95,14 +92,13 @@ same-length : tie.Need-same-length
 same-length c = simp length-set
 
 returns : tie.Need-returns
-unfolding withReply
+unfolding withReplyAt
 returns c = refl
 
 pub store-spec : {M : Type 1} → statement M
 store-spec =
     tie.close
     (tie.spec
-    mul-at
     add-replies
     mul-replies
     slice-write-replies
