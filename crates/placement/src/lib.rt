@@ -83,6 +83,23 @@ pub fn write_p(server: usize, weight: u32, sum: u32) -> Fraction
     }
 }
 
+// Whether a fraction is at least WriteP of a server with this weight, `sum` being as for write_p. A weight of 0 needs no case of its
+// own, since any fraction is at least 0.
+pub fn at_least_write_p(f: Fraction, server: usize, weight: u32, sum: u32) -> bool
+    ensures { λ r. ⌜ r ≡ atLeast f (shareOf server weight sum) ⌝ }
+{
+    if server == 0 {
+        return at_least(f, Fraction { num: 1, den: 1 });
+    }
+    at_least(
+        f,
+        Fraction {
+            num: weight,
+            den: sum,
+        },
+    )
+}
+
 // Whether a server with this fraction takes an id: the fraction exceeds the server's draw. With WriteP it is the write
 // rule, with ReadP the read rule.
 pub fn takes(f: Fraction, id: u32, server: usize) -> bool

@@ -2,6 +2,7 @@
 mod words;
 
 ghost use mathlib.Core.Path.{_≡_};
+ghost use Rattle.placement.specs.Rule.{shareOf};
 ghost use Rattle.table.specs.Parts.{tableOf, empty};
 ghost use Rattle.table.specs.Sound.{readSound, sound};
 use limits::Column;
@@ -47,9 +48,9 @@ pub fn empty(capacity: u32) -> Table
     }
 }
 
-// Whether a ReadP is in range and at least WriteP.
-fn read_sound(read: Fraction, write: Fraction) -> bool
-    ensures { λ r. ⌜ r ≡ readSound read write ⌝ }
+// Whether a ReadP is in range and at least WriteP of a server with this weight, `sum` being the weights of the servers up to it.
+fn read_sound(read: Fraction, server: usize, weight: u32, sum: u32) -> bool
+    ensures { λ r. ⌜ r ≡ readSound read (shareOf server weight sum) ⌝ }
 {
     if read.den < 1 {
         return false;
@@ -60,7 +61,7 @@ fn read_sound(read: Fraction, write: Fraction) -> bool
     if read.num > read.den {
         return false;
     }
-    placement::at_least(read, write)
+    placement::at_least_write_p(read, server, weight, sum)
 }
 
 // Whether a table of any bits is sound. It borrows the arrays, so that a caller copies none.
@@ -97,7 +98,7 @@ pub fn is_sound<'a>(shape: Shape, columns: Columns<'a>) -> bool
             num: numerators[i],
             den: denominators[i],
         };
-        if !read_sound(read, placement::write_p(i, weight, sum)) {
+        if !read_sound(read, i, weight, sum) {
             return false;
         }
         i += 1;

@@ -107,23 +107,20 @@ mul-t33 c = search needs
 element-copy-out-t36 : tie.Need-element-copy-out-t36 Inv-loop μ-loop
 element-copy-out-t36 c = search needs
 
-write-p-requires : tie.Need-write-p-requires Inv-loop μ-loop
-write-p-requires c κs = search needs
-
 read-sound-requires : tie.Need-read-sound-requires Inv-loop μ-loop
 read-sound-requires c κs = search needs
 
 -- where the server's tests begin
 abbrev L : tie.After-read-sound Inv-loop μ-loop → tie.In-loop Inv-loop μ-loop
-L c = c .before .before .before .before .before .before .before .before
+L c = c .before .before .before .before .before .before .before
 
 -- the server is as sound as its ReadP
 server-here : (c : tie.After-read-sound Inv-loop μ-loop) → serverSound (TL (L c .before)) (L c .before .loop .i) ≡ c .read-sound .result
 server-here c =
     let l = L c .before in
-    let five = c .before .before .before .before in
+    let five = c .before .before .before in
     let four = five .before .before in
-    tested (TL l) (l .loop .i) (l .loop .sum) (c .before .write-p .result) (c .read-sound .result) (four .if4 .left) (five .if5 .left) (l .loop .inv .4) (c .before .write-p .ensures) (c .read-sound .ensures)
+    tested (TL l) (l .loop .i) (l .loop .sum) _ (c .read-sound .result) (four .if4 .left) (five .if5 .left) (l .loop .inv .4) refl (c .read-sound .ensures)
 
 returns-6 : tie.Need-returns-6 Inv-loop μ-loop
 returns-6 c = sym (fails (L (c .before)) (server-here (c .before) ∙ not-true _ (c .if6 .taken)))
@@ -176,7 +173,6 @@ is-sound-spec =
     element-copy-out-t28
     mul-t33
     element-copy-out-t36
-    write-p-requires
     read-sound-requires
     returns-6
     add-i
