@@ -153,20 +153,17 @@ pub fn lookup_batch(table: Table, medium: &[u32], ids: &[u32]) -> Batch
     if n > MAX_IDS {
         return batch_answer::refused_batch(2);
     }
-    let number = replies::check_number(checks::ready(
-        Shape {
-            capacity: table.capacity,
-            count: table.count,
-        },
-        [
-            &table.weights,
-            &table.used,
-            &table.numerators,
-            &table.denominators,
-        ],
-        medium,
-        false,
-    ));
+    let shape = Shape {
+        capacity: table.capacity,
+        count: table.count,
+    };
+    let columns = [
+        &table.weights,
+        &table.used,
+        &table.numerators,
+        &table.denominators,
+    ];
+    let number = replies::check_number(checks::ready(shape, columns, medium, false));
     let servers = if number == 0 { table.count } else { 0 };
     let mut parts = begin(ids, number);
     let mut mounts: usize = 0;

@@ -37,18 +37,15 @@ pub fn delete(table: Table, medium: &mut [u32], id: u32) -> DeleteAnswer
     ensures reply { λ r. ⌜ replyOfDelete r ≡ deleteReply table (now (medium .entry)) id ⌝ }
     ensures medium { λ _. ⌜ now (medium .exit) ≡ deleteMedium table (now (medium .entry)) id ⌝ }
 {
-    delete_in(
-        Shape {
-            capacity: table.capacity,
-            count: table.count,
-        },
-        [
-            &table.weights,
-            &table.used,
-            &table.numerators,
-            &table.denominators,
-        ],
-        medium,
-        id,
-    )
+    let shape = Shape {
+        capacity: table.capacity,
+        count: table.count,
+    };
+    let columns = [
+        &table.weights,
+        &table.used,
+        &table.numerators,
+        &table.denominators,
+    ];
+    delete_in(shape, columns, medium, id)
 }

@@ -98,18 +98,15 @@ pub fn lookup_in<'a>(shape: Shape, columns: Columns<'a>, medium: &[u32], id: u32
 pub fn lookup(table: Table, medium: &[u32], id: u32) -> LookupAnswer
     ensures { λ r. ⌜ replyOfLookup r ≡ lookupReply table (now (medium .entry)) id ⌝ }
 {
-    lookup_in(
-        Shape {
-            capacity: table.capacity,
-            count: table.count,
-        },
-        [
-            &table.weights,
-            &table.used,
-            &table.numerators,
-            &table.denominators,
-        ],
-        medium,
-        id,
-    )
+    let shape = Shape {
+        capacity: table.capacity,
+        count: table.count,
+    };
+    let columns = [
+        &table.weights,
+        &table.used,
+        &table.numerators,
+        &table.denominators,
+    ];
+    lookup_in(shape, columns, medium, id)
 }

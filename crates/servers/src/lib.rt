@@ -49,20 +49,17 @@ pub fn add_server(table: Table, medium: &[u32], weight: u32) -> Placed
     ensures reply { λ r. ⌜ replyOfServer (r .answer) ≡ addServerReply table (now (medium .entry)) weight ⌝ }
     ensures table { λ r. ⌜ r .table ≡ addServerTable table (now (medium .entry)) weight ⌝ }
 {
-    let check = rows::add_server(
-        Shape {
-            capacity: table.capacity,
-            count: table.count,
-        },
-        [
-            &table.weights,
-            &table.used,
-            &table.numerators,
-            &table.denominators,
-        ],
-        medium,
-        weight,
-    );
+    let shape = Shape {
+        capacity: table.capacity,
+        count: table.count,
+    };
+    let columns = [
+        &table.weights,
+        &table.used,
+        &table.numerators,
+        &table.denominators,
+    ];
+    let check = rows::add_server(shape, columns, medium, weight);
     match check {
         Check::Refused(refusal) => Placed {
             answer: ServerAnswer::Refused(refusal),
@@ -84,20 +81,17 @@ pub fn reweight(table: Table, server: usize, weight: u32) -> Placed
     ensures reply { λ r. ⌜ replyOfServer (r .answer) ≡ reweightReply table server weight ⌝ }
     ensures table { λ r. ⌜ r .table ≡ reweightTable table server weight ⌝ }
 {
-    let check = rows::reweight(
-        Shape {
-            capacity: table.capacity,
-            count: table.count,
-        },
-        [
-            &table.weights,
-            &table.used,
-            &table.numerators,
-            &table.denominators,
-        ],
-        server,
-        weight,
-    );
+    let shape = Shape {
+        capacity: table.capacity,
+        count: table.count,
+    };
+    let columns = [
+        &table.weights,
+        &table.used,
+        &table.numerators,
+        &table.denominators,
+    ];
+    let check = rows::reweight(shape, columns, server, weight);
     match check {
         Check::Refused(refusal) => Placed {
             answer: ServerAnswer::Refused(refusal),

@@ -71,21 +71,17 @@ pub fn write(table: Table, medium: &mut [u32], id: u32, value: u32) -> Written
     ensures table { λ r. ⌜ r .table ≡ writeTable table (now (medium .entry)) id value ⌝ }
     ensures medium { λ _. ⌜ now (medium .exit) ≡ writeMedium table (now (medium .entry)) id value ⌝ }
 {
-    let answer = write_in(
-        Shape {
-            capacity: table.capacity,
-            count: table.count,
-        },
-        [
-            &table.weights,
-            &table.used,
-            &table.numerators,
-            &table.denominators,
-        ],
-        medium,
-        id,
-        value,
-    );
+    let shape = Shape {
+        capacity: table.capacity,
+        count: table.count,
+    };
+    let columns = [
+        &table.weights,
+        &table.used,
+        &table.numerators,
+        &table.denominators,
+    ];
+    let answer = write_in(shape, columns, medium, id, value);
     match answer {
         WriteAnswer::Refused(_) => Written { answer, table },
         WriteAnswer::Written(server, _) => {
