@@ -10,7 +10,7 @@ use lib.Dec.{eqb}
 use borrow.Author.Tests.{eqb-true, eqb-false, ne-eqb}
 use Rattle.lists.proofs.Tests.{byBool}
 use Rattle.table.specs.declared.Table.{Table}
-use Rattle.table.specs.Parts.{usedOf}
+use Rattle.table.specs.Parts.{shapeOf, tableBy, usedOf}
 use Rattle.upkeep.specs.Upkeep.{withEntry}
 use Rattle.table.proofs.Soundness.{sound-facts}
 use Rattle.replies.specs.Number.{addServerNumber, reweightNumber, writeNumber, deleteNumber, lookupNumber}
@@ -38,14 +38,7 @@ no-call number subject amount a b c d e = rw (ne-eqb number addServerNumber a, n
 
 -- a table with other used entries
 abbrev pub withUsed : Table → List ℕ → Table
-withUsed t used = record {
-  capacity = t .capacity;
-  count = t .count;
-  weights = t .weights;
-  used = used;
-  numerators = t .numerators;
-  denominators = t .denominators;
-}
+withUsed t used = tableBy (shapeOf t) (t .weights) used (t .numerators) (t .denominators)
 
 module _ (S : State) (number subject amount : ℕ) where
   -- the table after a write, and after delete, lookup or no call

@@ -18,7 +18,7 @@ use Rattle.placement.proofs.Rules.{takes-cong}
 use Rattle.medium.specs.Entry.{live}
 use Rattle.medium.proofs.Entries.{live-used}
 use Rattle.table.specs.declared.Table.{Table}
-use Rattle.table.specs.Parts.{usedOf, readP, reads}
+use Rattle.table.specs.Parts.{tableBy, usedOf, readP, reads}
 use Rattle.lookup.specs.Search.{Place, Search, lastLive, opening, searchBelow, searchFor}
 use Rattle.lookup.specs.Opened.{Met, NoneMet, lowest, opens, Opened}
 
@@ -69,7 +69,7 @@ length-downward p (suc n) = byBool (p n)
 module _ (t : Table) (m : List ℕ) (id : ℕ) where
   -- t with its first n servers alone
   abbrev first : ℕ → Table
-  first n = record { capacity = t .capacity; count = n; weights = t .weights; used = t .used; numerators = t .numerators; denominators = t .denominators }
+  first n = tableBy (record { capacity = t .capacity; count = n }) (t .weights) (t .used) (t .numerators) (t .denominators)
 
   -- server k is readable, and not below the server of o
   abbrev from : Option Place → ℕ → Bool

@@ -10,6 +10,7 @@ use borrow.Author.Tests.{le-ltb}
 use Rattle.lists.specs.Below.{nth}
 use Rattle.lists.specs.Array.{arrayAt}
 use Rattle.table.specs.declared.Table.{Table}
+use Rattle.table.specs.Parts.{tableBy}
 use Rattle.table.specs.Words.{capacityOffset, countOffset, weightsOffset, usedOffset, numeratorsOffset, denominatorsOffset, tableLength, tableFrom, wordsOf, withTable}
 use Rattle.table.proofs.Soundness.{Arrays}
 
@@ -20,7 +21,7 @@ whole words from = append-nil (take 256 (drop from words))
 
 pub read-table : (words weights used numerators denominators : List ℕ)
     → weights ≡ arrayAt words weightsOffset 256 → used ≡ arrayAt words usedOffset 256 → numerators ≡ arrayAt words numeratorsOffset 256 → denominators ≡ arrayAt words denominatorsOffset 256
-    → record { capacity = nth words capacityOffset; count = nth words countOffset; weights = weights; used = used; numerators = numerators; denominators = denominators } ≡ tableFrom words
+    → tableBy (record { capacity = nth words capacityOffset; count = nth words countOffset }) weights used numerators denominators ≡ tableFrom words
 unfolding tableFrom
 read-table words weights used numerators denominators a b c d = rw (a, b, c, d, whole words weightsOffset, whole words usedOffset, whole words numeratorsOffset, whole words denominatorsOffset)
 

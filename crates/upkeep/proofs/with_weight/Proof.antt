@@ -9,7 +9,7 @@ use borrow.Author.Needs.{needs}
 use borrow.Author.Tests.{not-true, not-false}
 use Rattle.lists.specs.Below.{nth, total, setBelow}
 use Rattle.table.specs.declared.Table.{Table}
-use Rattle.table.specs.Parts.{weightOf}
+use Rattle.table.specs.Parts.{shapeOf, tableBy, weightOf}
 use Rattle.upkeep.specs.Upkeep.{withWeight}
 use Rattle.table.proofs.Soundness.{Arrays, sound-facts}
 use Rattle.upkeep.proofs.KeptSound.{withWeight-light}
@@ -45,14 +45,9 @@ element-copy-out-w c = search needs
 
 -- the table before the loop
 abbrev T₀ : tie.At-loop Inv-loop μ-loop → Table
-T₀ l = let a = l .before .args in record {
-  capacity = a .table .capacity;
-  count = a .table .count;
-  weights = set (a .table .weights) (a .server) (a .weight);
-  used = a .table .used;
-  numerators = a .table .numerators;
-  denominators = a .table .denominators;
-}
+T₀ l =
+    let a = l .before .args in
+    tableBy (shapeOf (a .table)) (set (a .table .weights) (a .server) (a .weight)) (a .table .used) (a .table .numerators) (a .table .denominators)
 
 -- the weight that the loop stands at
 light-here : (c : tie.In-loop Inv-loop μ-loop) → nth (c .before .loop .next .weights) (c .before .loop .i) ≤ 65536
