@@ -72,7 +72,8 @@ pub fn write_server(weights: &[u32], id: u32) -> usize {
 
 /// Picks the write server of each id; answers how many were picked.
 pub fn picks(weights: &[u32], ids: &[u32], servers: &mut [u32]) -> usize {
-    if weights.len() > MAX_SERVERS || weights.iter().any(|&w| w > MAX_CAPACITY) {
+    let count = weights.len();
+    if count == 0 || count > MAX_SERVERS || weights.iter().any(|&w| w > MAX_CAPACITY) {
         return 0;
     }
     for (&id, server) in ids.iter().zip(servers.iter_mut()) {

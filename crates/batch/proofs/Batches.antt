@@ -11,9 +11,9 @@ use lib.ListN.{length}
 use lib.Dec.{leb, eqb}
 use borrow.Author.Tests.{eqb-true, eqb-false, eq-eqb, le-leb, lt-leb}
 use Rattle.limits.specs.Limits.{contentRange}
-use Rattle.lists.specs.Below.{nth, countBelow}
+use Rattle.lists.specs.Below.{nth, countBelow, someBelow}
 use Rattle.lists.proofs.Tests.{byBool}
-use Rattle.lists.proofs.Below.{countBelow-cong, countBelow-none}
+use Rattle.lists.proofs.Below.{countBelow-cong, countBelow-none, someBelow-in, someBelow-none}
 use Rattle.placement.specs.Rule.{readable, takes}
 use Rattle.medium.specs.Word.{tagOf}
 use Rattle.medium.specs.Entry.{valueAt}
@@ -29,6 +29,7 @@ use Rattle.lookup.specs.Search.{Place, Search, lastLive, opening, searchBelow, 
 use Rattle.lookup.specs.Opened.{lowest, opens}
 use Rattle.checks.specs.Ready.{readyRows, short}
 use Rattle.lookup.specs.Lookup.{lookupRows, metReply, lookupReply}
+use Rattle.lookup.proofs.ServerZero.{ends-there}
 use Rattle.lookup.proofs.Searches.{search-cases, search-low, opened-are}
 use Rattle.batch.specs.declared.Progress.{Progress}
 use Rattle.batch.specs.Batch.{lookupOpens}
@@ -99,6 +100,15 @@ module _ (t : Table) (m : List ℕ) (id : ℕ) where
   opens-none : firstOf (lookupRows t m id) ≢ 0 → (k : ℕ) → lookupOpens t m id k ≡ false
   unfolding lookupOpens
   opens-none z k = settle-no (lookupRows t m id) (opens t m id k) false z
+
+  -- the ids for which no server is opened are those refused before their search
+  pub opened-or-refused : someBelow (lookupOpens t m id) (t .count) ≡ eqb (firstOf (lookupRows t m id)) 0
+  opened-or-refused = byBool (eqb (firstOf (lookupRows t m id)) 0)
+      (λ e.
+      let z = eqb-true (firstOf (lookupRows t m id)) 0 e in
+      let w = ends-there t m id z in
+      someBelow-in (lookupOpens t m id) (t .count) _ (w .0) (opens-ready z _ ∙ w .1) ∙ sym e)
+      (λ e. someBelow-none (lookupOpens t m id) (t .count) (λ k l. opens-none (eqb-false (firstOf (lookupRows t m id)) 0 e) k) ∙ sym e)
 
   -- where the search meets an entry, no server below is opened
   closed-below : (p : Place) → firstOf (lookupRows t m id) ≡ 0 → searchFor t m id .met ≡ some p → (i : ℕ) → i < p .server → lookupOpens t m id i ≡ false

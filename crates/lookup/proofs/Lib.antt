@@ -3,3 +3,4 @@ pub mod Searches
 pub mod Passed
 mod Looked
 pub mod OpenedByValues
+pub mod ServerZero

@@ -26,8 +26,8 @@ copied ws k l = rw (take-length ws) (List·getD-append ws _ 0 k l)
 pub bounded-copied : (ws : List ℕ) → bounded ws ≡ true → Bounded (arrayAt ws 0 (length ws)) (length ws)
 unfolding bounded
 bounded-copied ws e = record {
-  few = leb-true (length ws) 256 (and-l _ _ e);
-  light = λ k l. rw (copied ws k l) (leb-true (nth ws k) 65536 (allBelow-out (light ws) (length ws) (and-r (leb (length ws) 256) _ e) k l));
+  few = leb-true (length ws) 256 (and-l _ _ (and-r (leb 1 (length ws)) _ e));
+  light = λ k l. rw (copied ws k l) (leb-true (nth ws k) 65536 (allBelow-out (light ws) (length ws) (and-r (leb (length ws) 256) _ (and-r (leb 1 (length ws)) _ e)) k l));
 }
 
 -- the write server of id i

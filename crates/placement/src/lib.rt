@@ -141,10 +141,13 @@ pub fn write_server(weights: &Column, count: usize, id: u32) -> usize
     0
 }
 
-// Whether there are at most 256 weights, each of at most 65,536.
+// Whether there are 1 to 256 weights, each of at most 65,536.
 fn are_bounded(weights: &[u32]) -> bool
     ensures { λ r. ⌜ r ≡ bounded (now (weights .entry)) ⌝ }
 {
+    if weights.len() < 1 {
+        return false;
+    }
     if weights.len() > MAX_SERVERS {
         return false;
     }
@@ -158,8 +161,8 @@ fn are_bounded(weights: &[u32]) -> bool
     true
 }
 
-// The write servers of many ids over the same weights: as many as both slices have room for, and none where there are more
-// than 256 weights or one is above 65,536.
+// The write servers of many ids over the same weights: as many as both slices have room for, and none where there is no
+// weight, more than 256 or one above 65,536.
 #[no_mangle]
 pub extern "C" fn picks(weights: &[u32], ids: &[u32], servers: &mut [u32]) -> usize
     ensures number { λ r. ⌜ r ≡ picksOf (now (weights .entry)) (now (ids .entry)) (now (servers .entry)) ⌝ }

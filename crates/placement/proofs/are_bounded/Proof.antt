@@ -13,7 +13,7 @@ use Rattle.placement.proofs.are_bounded.Statement.{statement}
 use Rattle.placement.proofs.are_bounded.Tie as tie
 
 abbrev Inv-loop : tie.InvT-loop
-Inv-loop weights i₀ i = (i ≤ length weights) × (length weights ≤ 256) × (allBelow (light weights) i ≡ true)
+Inv-loop weights i₀ i = (i ≤ length weights) × (1 ≤ length weights) × (length weights ≤ 256) × (allBelow (light weights) i ≡ true)
 
 abbrev μ-loop : tie.MeasureT-loop
 μ-loop weights i₀ i = length weights - i
@@ -22,22 +22,26 @@ returns : tie.Need-returns Inv-loop μ-loop
 unfolding bounded
 returns c = rw (lt-leb _ _ (c .if1 .taken))
 
-loop-holds : tie.Need-loop-holds Inv-loop μ-loop
-unfolding allBelow
-loop-holds c = (search needs, search needs, refl)
-
-mul-if2 : tie.Need-mul-if2 Inv-loop μ-loop
-mul-if2 c = search needs
-
-shared-slice-read-if2 : tie.Need-shared-slice-read-if2 Inv-loop μ-loop
-shared-slice-read-if2 c = search needs
-
 returns-2 : tie.Need-returns-2 Inv-loop μ-loop
 unfolding bounded
-returns-2 c =
+returns-2 c = rw (le-leb _ _ (c .before .if1 .left), lt-leb _ _ (c .if2 .taken))
+
+loop-holds : tie.Need-loop-holds Inv-loop μ-loop
+unfolding allBelow
+loop-holds c = (search needs, search needs, search needs, refl)
+
+mul-if3 : tie.Need-mul-if3 Inv-loop μ-loop
+mul-if3 c = search needs
+
+shared-slice-read-if3 : tie.Need-shared-slice-read-if3 Inv-loop μ-loop
+shared-slice-read-if3 c = search needs
+
+returns-3 : tie.Need-returns-3 Inv-loop μ-loop
+unfolding bounded
+returns-3 c =
     let l = c .before .before .before in
-    let ws = l .before .before .args .weights .now in
-    rw (le-leb _ _ (l .loop .inv .1), allBelow-not (light ws) (length ws) (l .loop .i) (search needs) (lt-leb _ _ (c .if2 .taken)))
+    let ws = l .before .before .before .args .weights .now in
+    rw (le-leb _ _ (l .loop .inv .1), le-leb _ _ (l .loop .inv .2), allBelow-not (light ws) (length ws) (l .loop .i) (search needs) (lt-leb _ _ (c .if3 .taken)))
 
 add-i : tie.Need-add-i Inv-loop μ-loop
 add-i c = search needs
@@ -48,14 +52,14 @@ loop-less c = search needs
 loop-again : tie.Need-loop-again Inv-loop μ-loop
 loop-again c =
     let l = c .before .before .before in
-    (search needs, search needs, allBelow-more (light (l .before .before .args .weights .now)) (l .loop .i) (l .loop .inv .2) (le-leb _ _ (c .if2 .left)))
+    (search needs, search needs, search needs, allBelow-more (light (l .before .before .before .args .weights .now)) (l .loop .i) (l .loop .inv .3) (le-leb _ _ (c .if3 .left)))
 
-returns-3 : tie.Need-returns-3 Inv-loop μ-loop
+returns-4 : tie.Need-returns-4 Inv-loop μ-loop
 unfolding bounded
-returns-3 c =
+returns-4 c =
     let l = c .before in
-    let e : l .loop .i ≡ length (l .before .before .args .weights .now) = omega arith in
-    rw (le-leb _ _ (l .loop .inv .1), ← e, l .loop .inv .2)
+    let e : l .loop .i ≡ length (l .before .before .before .args .weights .now) = omega arith in
+    rw (le-leb _ _ (l .loop .inv .1), le-leb _ _ (l .loop .inv .2), ← e, l .loop .inv .3)
 
 pub are-bounded-spec : {M : Type 1} → statement M
 are-bounded-spec =
@@ -64,11 +68,12 @@ are-bounded-spec =
     Inv-loop
     μ-loop
     returns
-    loop-holds
-    mul-if2
-    shared-slice-read-if2
     returns-2
+    loop-holds
+    mul-if3
+    shared-slice-read-if3
+    returns-3
     add-i
     loop-less
     loop-again
-    returns-3)
+    returns-4)
