@@ -46,7 +46,8 @@ use Rattle.writing.proofs.Accepted.{target-is, write-accepted}
 use Rattle.servers.specs.Servers.{addServerRows, addServerReply, addServerTable, reweightRows, reweightReply, reweightTable}
 use Rattle.servers.proofs.Accepted.{addServer-accepted, reweight-accepted}
 use Rattle.batch_answer.proofs.Orders.{batch-cong}
-use Rattle.batch.specs.Batch.{lookupOpens, openedAt, batchReply}
+use Rattle.batch.specs.Batch.{lookupOpens, openedAt, batchReply, batchRows}
+use Rattle.batch_answer.specs.Answer.{tooLong}
 
 -- two tables that agree below the count, with their arrays' lengths
 pub record Alike (t u : Table) : Type 0 where
@@ -180,8 +181,8 @@ module _ (t u : Table) (g : AgreeBelow t u) where
       refl
 
   pub batch-below : (m ids : List ℕ) → batchReply t m ids ≡ batchReply u m ids
-  unfolding batchReply openedAt
-  batch-below m ids = batch-cong ids (openedAt t m ids) (openedAt u m ids) (t .count) (u .count) (g .count)
+  unfolding batchReply openedAt batchRows
+  batch-below m ids = batch-cong ids (batchRows t ids) (batchRows u ids) (first-same 1 _ _ _ _ (ap (λ (b : Bool). tooLong ids && b) same-sound) (λ _. refl)) (openedAt t m ids) (openedAt u m ids) (t .count) (u .count) (g .count)
       (λ i k l. opens-below m (nth ids i) k l) _ _ _ _ _ _
       (λ i.
       let e = lookup-below m (nth ids i) in

@@ -14,6 +14,7 @@ use Rattle.lists.specs.Below.{nth, someBelow, countBelow}
 use Rattle.lists.proofs.Tests.{byBool}
 use Rattle.lists.proofs.Below.{length-setBelow, setBelow-at, setBelow-above, someBelow-none, someBelow-cong, countBelow-none, countBelow-le, nth-zeros}
 use Rattle.table.specs.declared.Table.{Table}
+use Rattle.table.specs.Sound.{sound}
 use Rattle.table.specs.Parts.{usedOf, readP}
 use Rattle.replies.specs.Refusal.{firstOf, settle}
 use Rattle.replies.proofs.Refusals.{settle-yes, settle-no}
@@ -21,12 +22,12 @@ use Rattle.checks.specs.Ready.{readyRows}
 use Rattle.lookup.specs.Lookup.{lookupReply}
 use Rattle.checks.proofs.Passed.{Ready, ready-accepted}
 use Rattle.batch_answer.specs.declared.Batch.{Batch}
-use Rattle.batch_answer.specs.Answer.{mounts, order, filled, batchBy, batchRows, refusedBatch, settledBatch}
+use Rattle.batch_answer.specs.Answer.{mounts, order, filled, batchBy, tooLong, refusedBatch, settledBatch}
 use Rattle.batch_answer.specs.Ends.{Ends}
 use Rattle.batch.specs.declared.Progress.{Progress}
 use Rattle.batch.specs.declared.Parts.{Parts}
-use Rattle.batch.specs.Batch.{lookupOpens, openedAt, batchReply}
-use Rattle.batch.specs.Batching.{firstRefusal, firstParts, progressAt, withParts, steppedAt, steppedAll}
+use Rattle.batch.specs.Batch.{lookupOpens, openedAt, batchRows, batchReply}
+use Rattle.batch.specs.Batching.{longNumber, firstRefusal, firstParts, progressAt, withParts, steppedAt, steppedAll}
 use Rattle.batch_answer.proofs.Filled.{filled-is}
 use Rattle.batch_answer.proofs.Orders.{mounts-few, order-none}
 use Rattle.batch_answer.proofs.Tally.{tally-nowhere, tally-end, tally-low}
@@ -38,14 +39,14 @@ same-batch : {a b : ℕ} {r s v w o p x y : List ℕ} → a ≡ b → r ≡ s �
 same-batch e f g h i = rw (e, f, g, h, i)
 
 -- a list of up to 256 ids is answered
-batch-accepted : (ids : List ℕ) → length ids ≤ 256 → firstOf (batchRows ids) ≡ 0
-unfolding batchRows firstOf
-batch-accepted ids h = rw (le-ltb 256 (length ids) h)
+batch-accepted : (t : Table) (ids : List ℕ) → length ids ≤ 256 → firstOf (batchRows t ids) ≡ 0
+unfolding batchRows tooLong firstOf
+batch-accepted t ids h = rw (le-ltb 256 (length ids) h)
 
 -- a longer one is not
-pub batch-refused : (t : Table) (m ids : List ℕ) → 256 < length ids → refusedBatch 2 ≡ batchReply t m ids
-unfolding batchReply settledBatch batchRows firstOf settle
-batch-refused t m ids h = rw (lt-ltb 256 (length ids) h)
+pub batch-refused : (t : Table) (m ids : List ℕ) → 256 < length ids → refusedBatch (longNumber t) ≡ batchReply t m ids
+unfolding batchReply settledBatch batchRows tooLong firstOf settle longNumber
+batch-refused t m ids h = rw (lt-ltb 256 (length ids) h) (byBool (sound t) (λ e. rw e) (λ e. rw e))
 
 module _ (t : Table) (m ids : List ℕ) where
   abbrev n : ℕ
@@ -256,4 +257,4 @@ module _ (t : Table) (m ids : List ℕ) where
         let e : places ≡ sets (replicate 256 0) 0 (order (openedAt t m ids) n servers) = (rw b at h) (openedAt t m ids) (servers-ends parts d) in
         same-batch (omega (arith, from .counted)) (last-refusals parts d) (last-values parts d) (last-opened parts d)
         (e ∙ ap (sets (replicate 256 0) 0) servers-order)
-        ∙ sym (settle-yes (batchRows ids) _ _ (batch-accepted ids (d .few)))
+        ∙ sym (settle-yes (batchRows t ids) _ _ (batch-accepted t ids (d .few)))

@@ -1,16 +1,17 @@
 -- A batch of lookups (document 02, item 1): the answers that single lookups on the same table and medium give, and the servers
 -- that these open.
 use Prim.Native.Nat.{ℕ}
-use mathlib.Core.Bool.{Bool, false}
-use mathlib.Core.List.{List}
+use mathlib.Core.Bool.{Bool, false, not, _&&_}
+use mathlib.Core.List.{List, [], _∷_}
 use lib.ListN.{length}
 use Rattle.lists.specs.Below.{nth}
 use Rattle.table.specs.declared.Table.{Table}
-use Rattle.replies.specs.Refusal.{settle}
+use Rattle.table.specs.Sound.{sound}
+use Rattle.replies.specs.Refusal.{Row, _when_, settle}
 use Rattle.lookup.specs.Opened.{opens}
 use Rattle.lookup.specs.Lookup.{lookupRows, lookupReply}
 use Rattle.batch_answer.specs.declared.Batch.{Batch}
-use Rattle.batch_answer.specs.Answer.{batchBy, settledBatch}
+use Rattle.batch_answer.specs.Answer.{batchBy, tooLong, settledBatch}
 
 -- a single lookup opens server k: none if it is refused before its search
 unfoldable pub lookupOpens : Table → List ℕ → ℕ → ℕ → Bool
@@ -20,9 +21,16 @@ lookupOpens t m id k = settle (lookupRows t m id) (opens t m id k) false
 unfoldable pub openedAt : Table → List ℕ → List ℕ → ℕ → ℕ → Bool
 openedAt t m ids i k = lookupOpens t m (nth ids i) k
 
+-- a list that is too long is refused by the lowest number that applies; any other one is not refused as a whole
+unfoldable pub batchRows : Table → List ℕ → List Row
+batchRows t ids =
+    1 when (tooLong ids && not (sound t))
+    ∷ 2 when tooLong ids
+    ∷ []
+
 unfoldable pub batchReply : Table → List ℕ → List ℕ → Batch
 batchReply t m ids =
-    settledBatch ids
+    settledBatch (batchRows t ids)
     (batchBy
     (λ i. lookupReply t m (nth ids i) .refusal)
     (λ i. lookupReply t m (nth ids i) .value)

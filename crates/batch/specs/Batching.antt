@@ -11,12 +11,18 @@ use Rattle.placement.specs.declared.Fraction.{Fraction}
 use Rattle.placement.specs.Draw.{modulus, drawOf}
 use Rattle.placement.specs.Fraction.{exceeds}
 use Rattle.medium.specs.Entry.{live}
+use Rattle.table.specs.declared.Table.{Table}
+use Rattle.table.specs.Sound.{sound}
 use Rattle.lookup.specs.Lookup.{metReply}
 use Rattle.batch_answer.specs.Answer.{filled}
 use Rattle.batch.specs.declared.Newest.{Newest}
 use Rattle.batch.specs.declared.Newest.the-variants.{Entry, Nothing}
 use Rattle.batch.specs.declared.Progress.{Progress}
 use Rattle.batch.specs.declared.Parts.{Parts}
+
+-- the refusal of a list that is too long
+unfoldable pub longNumber : Table → ℕ
+longNumber t = cond (sound t) 2 1
 
 -- what the search of one server answers
 unfoldable pub newestBy : Option ℕ → Newest

@@ -5,14 +5,17 @@ ghost use lib.ListN.{length};
 ghost use Rattle.limits.specs.Limits.{maxServers, maxIds};
 ghost use Rattle.lists.specs.Below.{nth, highest};
 ghost use Rattle.medium.specs.Entry.{live, Inside};
+ghost use Rattle.table.specs.Parts.{tableOf};
+ghost use Rattle.batch_answer.specs.Answer.{refusedBatch};
 ghost use Rattle.batch.specs.Batch.{batchReply};
-ghost use Rattle.batch.specs.Batching.{newestBy, firstRefusal, firstParts, stepped, steppedAll};
+ghost use Rattle.batch.specs.Batching.{longNumber, newestBy, firstRefusal, firstParts, stepped, steppedAll};
 use crate::Newest;
 use crate::Parts;
 use crate::Progress;
 use batch_answer::Batch;
 use limits::MAX_IDS;
 use placement::Fraction;
+use table::Columns;
 use table::Shape;
 use table::Table;
 
@@ -145,14 +148,20 @@ fn step_all(
     next
 }
 
+// The answer to a list that is too long.
+fn refuse_list<'a>(shape: Shape, columns: Columns<'a>) -> Batch
+    ensures { λ r. ⌜ r ≡ refusedBatch (longNumber (tableOf shape (columns .entry))) ⌝ }
+{
+    if table::is_sound(shape, columns) {
+        return batch_answer::refused_batch(2);
+    }
+    batch_answer::refused_batch(1)
+}
+
 // A batch of lookups on a table by value.
 pub fn lookup_batch(table: Table, medium: &[u32], ids: &[u32]) -> Batch
     ensures { λ r. ⌜ r ≡ batchReply table (now (medium .entry)) (now (ids .entry)) ⌝ }
 {
-    let n = ids.len();
-    if n > MAX_IDS {
-        return batch_answer::refused_batch(2);
-    }
     let shape = Shape {
         capacity: table.capacity,
         count: table.count,
@@ -163,6 +172,10 @@ pub fn lookup_batch(table: Table, medium: &[u32], ids: &[u32]) -> Batch
         &table.numerators,
         &table.denominators,
     ];
+    let n = ids.len();
+    if n > MAX_IDS {
+        return refuse_list(shape, columns);
+    }
     let number = replies::check_number(checks::ready(shape, columns, medium, false));
     let servers = if number == 0 { table.count } else { 0 };
     let mut parts = begin(ids, number);

@@ -10,7 +10,7 @@ use lib.Seq.{sets}
 use lib.Dec.{ltb, eqb}
 use Rattle.limits.specs.Limits.{maxIds}
 use Rattle.lists.specs.Below.{someBelow, upward, countBelow, setBelow}
-use Rattle.replies.specs.Refusal.{Row, _when_, firstOf, settle}
+use Rattle.replies.specs.Refusal.{Row, firstOf, settle}
 use Rattle.batch_answer.specs.declared.Batch.{Batch}
 
 -- Here `opened i k` says whether server k is opened for the id at position i, below n; count is the number of servers.
@@ -77,8 +77,9 @@ refusedBatch number = record {
 }
 
 -- a list of more than 256 ids is out of range; every other one is answered id by id
-unfoldable pub batchRows : List ℕ → List Row
-batchRows ids = 2 when ltb maxIds (length ids) ∷ []
+unfoldable pub tooLong : List ℕ → Bool
+tooLong ids = ltb maxIds (length ids)
 
-unfoldable pub settledBatch : List ℕ → Batch → Batch
-settledBatch ids done = settle (batchRows ids) done (refusedBatch (firstOf (batchRows ids)))
+-- the answer by the rows that refuse a list as a whole
+unfoldable pub settledBatch : List Row → Batch → Batch
+settledBatch rows done = settle rows done (refusedBatch (firstOf rows))

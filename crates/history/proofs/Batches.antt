@@ -2,7 +2,7 @@
 -- Assumes nothing.
 use Prim.Native.Nat.{ℕ, _<_}
 use mathlib.Core.Path.{_≡_, refl, ap, ap₂, _∙_}
-use mathlib.Core.Bool.{Bool, false, _&&_}
+use mathlib.Core.Bool.{Bool, false, _&&_, and-false}
 use mathlib.Core.List.{List}
 use mathlib.Core.Option.{Option, none, some}
 use lib.Dec.{leb}
@@ -13,9 +13,11 @@ use Rattle.lookup.specs.Opened.{lowest, opens}
 use Rattle.lookup.specs.Lookup.{lookupRows}
 use Rattle.lookup.proofs.Passed.{in-range}
 use Rattle.batch_answer.proofs.Orders.{batch-cong}
-use Rattle.batch.specs.Batch.{lookupOpens, openedAt, batchReply}
+use Rattle.batch.specs.Batch.{lookupOpens, openedAt, batchReply, batchRows}
+use Rattle.batch_answer.specs.Answer.{tooLong}
+use Rattle.replies.specs.Refusal.{firstOf}
 use Rattle.history.specs.Call.{Compared, compared}
-use Rattle.history.specs.Ledger.{Ledger, Standing, standing, lookupRowsL, enter, standsFrom, opensL, openedAtL, batchL}
+use Rattle.history.specs.Ledger.{Ledger, Standing, standing, lookupRowsL, enter, standsFrom, opensL, openedAtL, batchL, batchRowsL}
 use Rattle.history.proofs.Events.{placeOf}
 use Rattle.history.proofs.Agree.{Agree, same-reads, same-met}
 use Rattle.history.proofs.LookupStep.{same-rows, lookup-step}
@@ -35,8 +37,8 @@ module _ {t : Table} {m : List ℕ} {L : Ledger} (A : Agree t m L) where
       refl
 
   pub same-batch : (ids : List ℕ) → batchReply t m ids ≡ batchL L ids
-  unfolding batchReply batchL compared openedAt openedAtL enter
-  same-batch ids = batch-cong ids (openedAt t m ids) (openedAtL L ids) (t .count) (L .servers) (A .count)
+  unfolding batchReply batchL compared openedAt openedAtL enter batchRows batchRowsL firstOf
+  same-batch ids = batch-cong ids (batchRows t ids) (batchRowsL ids) (rw (A .isSound, and-false (tooLong ids))) (openedAt t m ids) (openedAtL L ids) (t .count) (L .servers) (A .count)
       (λ i k l. same-opens (nth ids i) k l) _ _ _ _ _ _
       (λ i.
       let e = lookup-step A (nth ids i) .alike in

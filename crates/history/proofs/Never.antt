@@ -14,11 +14,11 @@ use Rattle.lists.proofs.Tests.{byBool, and-l, and-r}
 use Rattle.lists.proofs.Below.{nth-zeros}
 use Rattle.replies.specs.Refusal.{Row, firstOf, settle}
 use Rattle.batch_answer.specs.declared.Batch.{Batch}
-use Rattle.batch_answer.specs.Answer.{batchBy, batchRows, settledBatch}
+use Rattle.batch_answer.specs.Answer.{batchBy, tooLong, settledBatch}
 use Rattle.batch_answer.proofs.Filled.{filled-each}
 use Rattle.history.specs.Call.{Call, addServer, reweight, write, delete, lookup, batch, Compared, compared}
 use Rattle.history.specs.Machine.{State, reply, idRefusals, refusals}
-use Rattle.history.specs.Ledger.{Ledger, Standing, Entered, standing, enterBy, addServerRowsL, reweightRowsL, readyRowsL, writeRowsL, deleteRowsL, lookupRowsL, standingReply, lookupL, batchL, enter}
+use Rattle.history.specs.Ledger.{Ledger, Standing, Entered, standing, enterBy, addServerRowsL, reweightRowsL, readyRowsL, writeRowsL, deleteRowsL, lookupRowsL, standingReply, lookupL, batchRowsL, batchL, enter}
 use Rattle.history.proofs.Entering.{entered}
 use Rattle.history.proofs.Batches.{same-batch}
 use Rattle.history.proofs.Run.{Agrees, step}
@@ -56,7 +56,7 @@ standing-usual L id none = refl
 standing-usual L id (some x) = refl
 
 batch-usual : (L : Ledger) (ids : List ℕ) → usual (batchL L ids .refusal) ≡ true
-unfolding batchL batchBy settledBatch batchRows settle firstOf usual
+unfolding batchL batchBy settledBatch batchRowsL tooLong settle firstOf usual
 batch-usual L ids = byBool (ltb 256 (length ids)) (λ d. rw d) (λ d. rw d)
 
 enter-usual : (L : Ledger) (c : Call) → usual (enter L c .reply .refusal) ≡ true
@@ -70,7 +70,7 @@ enter-usual L (batch ids) = batch-usual L ids
 
 -- each id of a batch has the refusal of its lookup
 ids-usual : (L : Ledger) (ids : List ℕ) (i : ℕ) → usual (nth (batchL L ids .refusals) i) ≡ true
-unfolding batchL batchBy settledBatch batchRows settle firstOf enter usual
+unfolding batchL batchBy settledBatch batchRowsL tooLong settle firstOf enter usual
 ids-usual L ids i = byBool (ltb 256 (length ids))
     (λ d. rw (d, nth-zeros 256 i))
     (λ d. rw d (filled-each (λ j. lookupL L (nth ids j) .reply .refusal) (length ids) (ltb-false 256 (length ids) d)

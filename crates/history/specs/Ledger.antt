@@ -14,7 +14,7 @@ use Rattle.placement.specs.Fraction.{raise}
 use Rattle.placement.specs.Rule.{writeP, writeServer, readable}
 use Rattle.replies.specs.Refusal.{Row, _when_, firstOf, settle}
 use Rattle.batch_answer.specs.declared.Batch.{Batch}
-use Rattle.batch_answer.specs.Answer.{batchBy, settledBatch}
+use Rattle.batch_answer.specs.Answer.{batchBy, tooLong, settledBatch}
 use Rattle.history.specs.Call.{Call, addServer, reweight, write, delete, lookup, batch, Compared}
 
 -- an accepted write (id, value, server) or an accepted delete
@@ -204,9 +204,12 @@ opensL L id k = settle (lookupRowsL L id) (leb (standsFrom (standing (L .events)
 unfoldable pub openedAtL : Ledger → List ℕ → ℕ → ℕ → Bool
 openedAtL L ids i k = opensL L (nth ids i) k
 
+unfoldable pub batchRowsL : List ℕ → List Row
+batchRowsL ids = 2 when tooLong ids ∷ []
+
 unfoldable pub batchL : Ledger → List ℕ → Batch
 batchL L ids =
-    settledBatch ids
+    settledBatch (batchRowsL ids)
     (batchBy
     (λ i. lookupL L (nth ids i) .reply .refusal)
     (λ i. lookupL L (nth ids i) .reply .value)

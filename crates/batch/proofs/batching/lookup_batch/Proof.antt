@@ -41,13 +41,13 @@ M s = s .args .medium .now
 abbrev I : tie.Start Inv-loop μ-loop → List ℕ
 I s = s .args .ids .now
 
-refused-batch-requires : tie.Need-refused-batch-requires Inv-loop μ-loop
-refused-batch-requires c κs = search needs
+refuse-list-requires : tie.Need-refuse-list-requires Inv-loop μ-loop
+refuse-list-requires c κs = search needs
 
 returns : tie.Need-returns Inv-loop μ-loop
 returns c =
-    let s = c .before .before .before .before in
-    c .refused-batch .ensures ∙ batch-refused (T s) (M s) (I s) (search needs)
+    let s = c .before .before .before .before .before .before .before .before .before in
+    c .refuse-list .ensures ∙ batch-refused (T s) (M s) (I s) (omega (arith, c .before .if1 .taken))
 
 ready-requires : tie.Need-ready-requires Inv-loop μ-loop
 ready-requires c κs = search needs
@@ -59,7 +59,7 @@ begin-requires : tie.Need-begin-requires Inv-loop μ-loop
 begin-requires c κs = search needs
 
 few : (j : tie.Joined2 Inv-loop μ-loop) → length (I (J j)) ≤ 256
-few j = let e = j .before .before .before .before .before .before .before .before in omega (arith, e .if1 .left)
+few j = let e = j .before .before .before in omega (arith, e .if1 .left)
 
 -- what the tests say of an id in range, and how many servers the loop goes through
 number-here : (j : tie.Joined2 Inv-loop μ-loop) → j .before .check-number .result ≡ firstOf (readyRows (T (J j)) (M (J j)) false)
@@ -195,7 +195,7 @@ lookup-batch-spec =
     (tie.spec
     Inv-loop
     μ-loop
-    refused-batch-requires
+    refuse-list-requires
     returns
     ready-requires
     check-number-requires
