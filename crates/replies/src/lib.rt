@@ -21,15 +21,25 @@ pub const LOOKUP: u32 = 5;
 
 // Why a call is refused: a case for each number of document 01's table, in its order from 1 to 10.
 pub enum Refusal {
+    // 1, foreign table: the table is not sound.
     UnsoundTable,
+    // 2, out of range: the capacity, an id, a value or a weight.
     OutOfRange,
+    // 3, no such shelf: a server at or above the count, or no server at all.
     NoSuchServer,
+    // 4, rack full: there are 256 servers already.
     TooManyServers,
+    // 5, short medium: it has fewer words than the servers.
     ShortMedium,
+    // 6, shelf full: every entry of the write server is used.
     ServerFull,
+    // 7, not blank: a word of the new server or of the target entry.
     NotBlank,
+    // 8, absent: no readable server has a live entry of the id.
     NotFound,
+    // 9, over free: the weight is above the entries that the server has left.
     ExceedsFree,
+    // 10, damaged: the value word that a lookup found has another tag.
     Corrupt,
 }
 
