@@ -3,12 +3,13 @@
 use Prim.Native.Nat.{ℕ}
 use mathlib.Core.Path.{_≡_, refl, ap}
 use mathlib.Core.List.{List, [], _∷_, _++_}
-use mathlib.Core.Option.{none}
-use lib.ListN.{length}
+use mathlib.Core.Option.{none, some}
+use lib.ListN.{length, replicate}
 use lib.Dec.{ltb, eqb}
 use Rattle.lists.proofs.Tests.{byBool}
+use Rattle.medium.specs.Word.{blank}
 use Rattle.replies.specs.Refusal.{firstOf, settle}
-use Rattle.servers.specs.Servers.{startRows}
+use Rattle.servers.specs.Servers.{startRows, startTable}
 use Rattle.text.specs.declared.Line.{Line}
 use Rattle.text.specs.declared.Line.the-variants as line
 use Rattle.text.specs.Line.{lineOf}
@@ -24,7 +25,7 @@ line-alike : (lines : List (List ℕ)) (m m′ : List ℕ) → length m ≡ leng
     → lineRun (fresh m) L .bytes ++ run (lineRun (fresh m) L .sheet) lines .bytes ≡ lineRun (fresh m′) L .bytes ++ run (lineRun (fresh m′) L .sheet) lines .bytes
 unfolding lineRun called started settle
 line-alike lines m m′ e h (line.Start capacity) = byBool (eqb (firstOf (startRows capacity)) 0)
-    (λ a. rw (a, e))
+    (λ a. rw a (ap (λ (w : List ℕ). lineRun (fresh m) (line.Start capacity) .bytes ++ run (record { table = some (startTable capacity); medium = w }) lines .bytes) (ap (λ (n : ℕ). replicate n blank) e)))
     (λ r. rw (r, h))
 line-alike lines m m′ e h (line.Call number subject amount) = ap (λ (x : List ℕ). question ++ x) h
 line-alike lines m m′ e h line.Unreadable = ap (λ (x : List ℕ). question ++ x) h

@@ -2,6 +2,7 @@
 use mathlib.Core.Bool.{true, false}
 use mathlib.Core.Path.{_≡_, sym, _∙_}
 use native.Mathlib.Omega.{arith}
+use lib.Dec.{eqb}
 use borrow.Author.Needs.{needs}
 use borrow.Author.Tests.{lt-ltb, le-ltb, eq-eqb, ne-eqb, not-true, not-false}
 use Rattle.table.specs.declared.Table.{Table}
@@ -37,7 +38,9 @@ returns-2 c = rw (is-sound (c .before), c .if2 .taken)
 
 returns-3 : tie.Need-returns-3
 unfolding checkNumber numberOf readyRows firstOf
-returns-3 c = rw (is-sound (c .before .before), c .before .if2 .left, eq-eqb _ _ (c .if3 .taken))
+returns-3 c =
+    let none : eqb (T (c .before .before .before) .count) 0 ≡ true = eq-eqb _ _ (c .if3 .taken) in
+    rw (is-sound (c .before .before), c .before .if2 .left, none)
 
 cast-server-at : tie.Need-cast-server-at
 cast-server-at c = search needs

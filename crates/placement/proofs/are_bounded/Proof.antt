@@ -1,9 +1,10 @@
 -- `placement::are_bounded` meets its contract. The invariant: each weight so far is light.
 use Prim.Native.Nat.{_-_, _≤_}
 use mathlib.Core.Path.{_≡_, refl}
-use mathlib.Core.Bool.{true}
+use mathlib.Core.Bool.{true, false}
 use native.Mathlib.Omega.{arith}
 use lib.ListN.{length}
+use lib.Dec.{leb}
 use borrow.Author.Needs.{needs}
 use borrow.Author.Tests.{le-leb, lt-leb}
 use Rattle.lists.specs.Below.{allBelow}
@@ -20,7 +21,9 @@ abbrev μ-loop : tie.MeasureT-loop
 
 returns : tie.Need-returns Inv-loop μ-loop
 unfolding bounded
-returns c = rw (lt-leb _ _ (c .if1 .taken))
+returns c =
+    let none : leb 1 (length (c .before .args .weights .now)) ≡ false = lt-leb _ _ (c .if1 .taken) in
+    rw none
 
 returns-2 : tie.Need-returns-2 Inv-loop μ-loop
 unfolding bounded
