@@ -1,6 +1,6 @@
 -- Start, add_server and reweight (document 01, "The calls" and its table of refusals): for each its rows of refusals in the
 -- order of the tests, its reply, and the table that it leaves. t is the table and m the medium as lent.
-use Prim.Native.Nat.{ℕ, suc, _-_, _*_}
+use Prim.Native.Nat.{ℕ, suc, _-_}
 use mathlib.Core.Bool.{not, _&&_}
 use mathlib.Core.List.{List, [], _∷_}
 use lib.ListN.{length}
