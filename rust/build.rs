@@ -5,7 +5,7 @@ fn main() {
     let root = std::env::var("CARGO_MANIFEST_DIR").expect("cargo sets it");
     let folder = Path::new(&root).join("../target/staticlib");
     println!("cargo:rustc-link-search=native={}", folder.display());
-    for name in ["placement", "replay"] {
+    for name in ["picks", "replay"] {
         let archive = folder.join(format!("lib{name}.a"));
         println!("cargo:rerun-if-changed={}", archive.display());
     }

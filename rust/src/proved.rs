@@ -26,7 +26,7 @@ extern "C" {
     ) -> usize;
 }
 
-#[link(name = "placement", kind = "static")]
+#[link(name = "picks", kind = "static")]
 extern "C" {
     #[link_name = "picks"]
     fn proved_picks(

@@ -30,19 +30,20 @@ use Rattle.replies.specs.Refusal.{firstOf}
 use Rattle.replies.specs.declared.Reply.{Reply}
 use Rattle.replies.specs.Reply.{onServer}
 use Rattle.replies.proofs.Refusals.{more-same, first-same, settle-both, reply-same}
-use Rattle.lookup.specs.Search.{Search}
-use Rattle.lookup.specs.Opened.{lowest, opens, SameOpened}
+use Rattle.search.specs.Search.{Search}
+use Rattle.search.specs.Opened.{lowest, opens, SameOpened}
 use Rattle.checks.specs.Ready.{short, readyRows}
 use Rattle.checks.proofs.Passed.{ready-same, ready-numbered, ready-tests, ready-accepted}
 use Rattle.lookup.specs.Lookup.{lookupRows, lookupReply}
 use Rattle.lookup.proofs.Passed.{lookup-accepted}
-use Rattle.lookup.proofs.Searches.{reads-same}
+use Rattle.search.proofs.Searches.{reads-same}
 use Rattle.lookup.proofs.OpenedByValues.{same-met, opened-by-values}
 use Rattle.invalidation.specs.Marks.{marksFrom}
 use Rattle.deletion.specs.Deletion.{deleteRows, deleteMarks, deleteReply, deleteMedium}
 use Rattle.deletion.proofs.Done.{deleted-some}
-use Rattle.writing.specs.Writing.{target, entryRows, writeRows, writeMarks, writeBurns, writeReply, writeTable, writeMedium}
-use Rattle.writing.proofs.Accepted.{target-is, write-accepted}
+use Rattle.planning.specs.WriteRows.{target, entryRows, writeRows}
+use Rattle.writing.specs.Writing.{writeMarks, writeBurns, writeReply, writeTable, writeMedium}
+use Rattle.planning.proofs.Passed.{target-is, write-accepted}
 use Rattle.servers.specs.Servers.{addServerRows, addServerReply, addServerTable, reweightRows, reweightReply, reweightTable}
 use Rattle.servers.proofs.Accepted.{addServer-accepted, reweight-accepted}
 use Rattle.batch_answer.proofs.Orders.{batch-cong}

@@ -22,8 +22,9 @@ use Rattle.table.specs.Parts.{usedOf, reads}
 use Rattle.replies.proofs.Refusals.{settle-either}
 use Rattle.invalidation.specs.Marks.{marksFrom}
 use Rattle.deletion.specs.Deletion.{deleteRows, deleteMarks, deleteMedium}
-use Rattle.writing.proofs.Accepted.{write-accepted}
-use Rattle.writing.specs.Writing.{target, writeRows, writeMarks, writeBurns, writeMedium}
+use Rattle.planning.proofs.Passed.{write-accepted}
+use Rattle.planning.specs.WriteRows.{target, writeRows}
+use Rattle.writing.specs.Writing.{writeMarks, writeBurns, writeMedium}
 
 -- the marks of live entries are blank, so to burn them alters no word that is not
 marks-once : (t : Table) (m : List ℕ) (id content from : ℕ) (w : List ℕ) (a : ℕ) → nth m a ≢ blank

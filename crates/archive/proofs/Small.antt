@@ -24,16 +24,17 @@ use Rattle.replies.specs.declared.Reply.{Reply}
 use Rattle.replies.specs.Reply.{onServer, replyBy}
 use Rattle.replies.proofs.Refusals.{settle-either}
 use Rattle.checks.proofs.Passed.{ready-accepted}
-use Rattle.lookup.specs.Search.{Place, searchFor}
+use Rattle.search.specs.Search.{Place, searchFor}
 use Rattle.lookup.specs.Lookup.{lookupRows, metReply, lookupReply}
-use Rattle.lookup.specs.Opened.{opens}
+use Rattle.search.specs.Opened.{opens}
 use Rattle.lookup.proofs.Passed.{lookup-accepted}
-use Rattle.lookup.proofs.Searches.{opened-are}
+use Rattle.search.proofs.Searches.{opened-are}
 use Rattle.invalidation.proofs.Invalidating.{length-marksOn}
 use Rattle.deletion.specs.Deletion.{deleteRows, deleteMarks, deleteReply}
 use Rattle.deletion.proofs.Done.{delete-ready}
-use Rattle.writing.specs.Writing.{target, writeRows, writeMarks, writeReply}
-use Rattle.writing.proofs.Accepted.{write-accepted}
+use Rattle.planning.specs.WriteRows.{target, writeRows}
+use Rattle.writing.specs.Writing.{writeMarks, writeReply}
+use Rattle.planning.proofs.Passed.{write-accepted}
 use Rattle.servers.specs.Servers.{addServerRows, addServerReply, reweightRows, reweightReply}
 use Rattle.servers.proofs.Accepted.{addServer-accepted, reweight-accepted}
 

@@ -24,10 +24,10 @@ use Rattle.checks.proofs.Passed.{Ready, ready-accepted}
 use Rattle.batch_answer.specs.declared.Batch.{Batch}
 use Rattle.batch_answer.specs.Answer.{mounts, order, filled, batchBy, tooLong, refusedBatch, settledBatch}
 use Rattle.batch_answer.specs.Ends.{Ends}
-use Rattle.batch.specs.declared.Progress.{Progress}
-use Rattle.batch.specs.declared.Parts.{Parts}
-use Rattle.batch.specs.Batch.{lookupOpens, openedAt, batchRows, batchReply}
-use Rattle.batch.specs.Batching.{longNumber, firstRefusal, firstParts, progressAt, withParts, steppedAt, steppedAll}
+use Rattle.batch_steps.specs.declared.Progress.{Progress}
+use Rattle.batch_steps.specs.declared.Parts.{Parts}
+use Rattle.batch.specs.Batch.{lookupOpens, openedAt, batchRows, longNumber, batchReply}
+use Rattle.batch_steps.specs.Steps.{firstRefusal, firstParts, progressAt, withParts, steppedAt, steppedAll}
 use Rattle.batch_answer.proofs.Filled.{filled-is}
 use Rattle.batch_answer.proofs.Orders.{mounts-few, order-none}
 use Rattle.batch_answer.proofs.Tally.{tally-nowhere, tally-end, tally-low}

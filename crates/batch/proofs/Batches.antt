@@ -25,16 +25,16 @@ use Rattle.replies.specs.declared.Reply.{Reply}
 use Rattle.replies.specs.Reply.{refused, replyBy}
 use Rattle.replies.proofs.Refusals.{settle-yes, settle-no}
 use Rattle.replies.proofs.Answers.{reply-done}
-use Rattle.lookup.specs.Search.{Place, Search, lastLive, opening, searchBelow, searchFor}
-use Rattle.lookup.specs.Opened.{lowest, opens}
+use Rattle.search.specs.Search.{Place, Search, lastLive, opening, searchBelow, searchFor}
+use Rattle.search.specs.Opened.{lowest, opens}
 use Rattle.checks.specs.Ready.{readyRows, short}
 use Rattle.lookup.specs.Lookup.{lookupRows, metReply, lookupReply}
 use Rattle.lookup.proofs.ServerZero.{ends-there}
-use Rattle.lookup.proofs.Searches.{search-cases, search-low, opened-are}
-use Rattle.batch.specs.declared.Progress.{Progress}
+use Rattle.search.proofs.Searches.{search-cases, search-low, opened-are}
+use Rattle.batch_steps.specs.declared.Progress.{Progress}
 use Rattle.batch.specs.Batch.{lookupOpens}
-use Rattle.batch.specs.Batching.{absentSoFar, firstRefusal, visited, stepped}
-use Rattle.batch.proofs.Stepping.{step-tested, step-settled}
+use Rattle.batch_steps.specs.Steps.{absentSoFar, firstRefusal, visited, stepped}
+use Rattle.batch_steps.proofs.Stepping.{step-tested, step-settled}
 use Rattle.batch_answer.proofs.Tally.{Tally, tally-start, tally-none, tally-skip, tally-open, tally-above, tally-count}
 
 -- refusal and value of an entry that is met do not hang on how many servers were opened, and it is not called absent

@@ -1,3 +1,2 @@
-mod Stepping
 mod Batches
 mod BatchParts

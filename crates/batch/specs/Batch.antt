@@ -1,14 +1,14 @@
 -- A batch of lookups (document 02, item 1): the answers that single lookups on the same table and medium give, and the servers
 -- that these open.
 use Prim.Native.Nat.{ℕ}
-use mathlib.Core.Bool.{Bool, false, not, _&&_}
+use mathlib.Core.Bool.{Bool, false, cond, not, _&&_}
 use mathlib.Core.List.{List, [], _∷_}
 use lib.ListN.{length}
 use Rattle.lists.specs.Below.{nth}
 use Rattle.table.specs.declared.Table.{Table}
 use Rattle.table.specs.Sound.{sound}
 use Rattle.replies.specs.Refusal.{Row, _when_, settle}
-use Rattle.lookup.specs.Opened.{opens}
+use Rattle.search.specs.Opened.{opens}
 use Rattle.lookup.specs.Lookup.{lookupRows, lookupReply}
 use Rattle.batch_answer.specs.declared.Batch.{Batch}
 use Rattle.batch_answer.specs.Answer.{batchBy, tooLong, settledBatch}
@@ -27,6 +27,10 @@ batchRows t ids =
     1 when (tooLong ids && not (sound t))
     ∷ 2 when tooLong ids
     ∷ []
+
+-- the number of that refusal
+unfoldable pub longNumber : Table → ℕ
+longNumber t = cond (sound t) 2 1
 
 unfoldable pub batchReply : Table → List ℕ → List ℕ → Batch
 batchReply t m ids =

@@ -1,28 +1,66 @@
-// A batch: up to 256 ids looked up together, each server opened at most once.
-mod batching;
-
-pub use batching::lookup_batch;
+// A batch: up to 256 ids looked up together, server by server from the highest down, each opened at most once for all the ids
+// that it is read for.
+ghost use mathlib.Core.Path.{_≡_};
+ghost use Rattle.table.specs.Parts.{tableOf};
+ghost use Rattle.batch_answer.specs.Answer.{refusedBatch};
+ghost use Rattle.batch.specs.Batch.{longNumber, batchReply};
+use batch_answer::Batch;
 use limits::MAX_IDS;
+use placement::Fraction;
+use table::Columns;
+use table::Shape;
+use table::Table;
 
-// The newest entry of an id on a server: the highest-numbered live one.
-enum Newest {
-    Entry(usize),
-    Nothing,
+// The answer to a list that is too long.
+fn refuse_list<'a>(shape: Shape, columns: Columns<'a>) -> Batch
+    ensures { λ r. ⌜ r ≡ refusedBatch (longNumber (tableOf shape (columns .entry))) ⌝ }
+{
+    if table::is_sound(shape, columns) {
+        return batch_answer::refused_batch(2);
+    }
+    batch_answer::refused_batch(1)
 }
 
-// How far the lookup of one id in a batch is: its reply so far, refusal 8 while no entry was met, and one more than the last
-// server opened for it, or 0.
-struct Progress {
-    pub refusal: u32,
-    pub value: u32,
-    pub opened: u32,
-    pub end: u32,
-}
-
-// How far the lookups of all ids are: each array has one number for each id, in the order of the ids.
-struct Parts {
-    pub refusals: [u32; MAX_IDS],
-    pub values: [u32; MAX_IDS],
-    pub opened: [u32; MAX_IDS],
-    pub ends: [u32; MAX_IDS],
+// A batch of lookups on a table by value.
+pub fn lookup_batch(table: Table, medium: &[u32], ids: &[u32]) -> Batch
+    ensures { λ r. ⌜ r ≡ batchReply table (now (medium .entry)) (now (ids .entry)) ⌝ }
+{
+    let shape = Shape {
+        capacity: table.capacity,
+        count: table.count,
+    };
+    let columns = [
+        &table.weights,
+        &table.used,
+        &table.numerators,
+        &table.denominators,
+    ];
+    let n = ids.len();
+    if n > MAX_IDS {
+        return refuse_list(shape, columns);
+    }
+    let number = replies::check_number(checks::ready(shape, columns, medium, false));
+    let servers = if number == 0 { table.count } else { 0 };
+    let mut parts = batch_steps::begin(ids, number);
+    let mut mounts: usize = 0;
+    let mut k = servers;
+    while 0 < k {
+        k -= 1;
+        let read = Fraction {
+            num: table.numerators[k],
+            den: table.denominators[k],
+        };
+        parts = batch_steps::step_all(parts, read, table.capacity, table.used[k], medium, ids, k);
+        if batch_answer::has(&parts.ends, n, k as u32 + 1) {
+            mounts += 1;
+        }
+    }
+    Batch {
+        refusal: 0,
+        mounts,
+        refusals: parts.refusals,
+        values: parts.values,
+        opened: parts.opened,
+        order: batch_answer::order(&parts.ends, n, servers),
+    }
 }

@@ -10,7 +10,7 @@ const INPUT: usize = sheet::MAX_INPUT + 1;
 const WORDS: usize = 3072;
 
 // As much as a line prints at most, for each byte of the input.
-const OUTPUT: usize = text::LONGEST_LINE * INPUT;
+const OUTPUT: usize = printing::LONGEST_LINE * INPUT;
 
 fn input_space() -> [u8; INPUT]
     ensures { λ r. ⌜ 65537 ≡ length r ⌝ }

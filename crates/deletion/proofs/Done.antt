@@ -25,8 +25,8 @@ use Rattle.replies.proofs.Refusals.{settle-yes, first-later, first-earlier, pas
 use Rattle.replies.proofs.Answers.{number-not-zero, kept, reply-refused, reply-done}
 use Rattle.checks.specs.Ready.{readyRows}
 use Rattle.checks.proofs.Passed.{ready-numbered}
-use Rattle.lookup.specs.Search.{searchFor, Place}
-use Rattle.lookup.proofs.Searches.{met-some, met-none}
+use Rattle.search.specs.Search.{searchFor, Place}
+use Rattle.search.proofs.Searches.{met-some, met-none}
 use Rattle.deletion.specs.Deletion.{isMet, deleteRows, deleteMarks, deleteReply, deleteMedium}
 
 module _ (t : Table) (m : List ℕ) (id : ℕ) where

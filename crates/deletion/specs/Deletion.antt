@@ -14,7 +14,7 @@ use Rattle.replies.specs.Refusal.{Row, _when_, settle}
 use Rattle.replies.specs.declared.Reply.{Reply}
 use Rattle.replies.specs.Reply.{onServer, replyBy}
 use Rattle.checks.specs.Ready.{readyRows}
-use Rattle.lookup.specs.Search.{Place, searchFor}
+use Rattle.search.specs.Search.{Place, searchFor}
 use Rattle.invalidation.specs.Marks.{marksFrom}
 
 unfoldable pub isMet : Option Place → Bool

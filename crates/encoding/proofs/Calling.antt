@@ -16,7 +16,7 @@ use Rattle.table.proofs.Soundness.{sound-facts}
 use Rattle.replies.specs.Number.{addServerNumber, reweightNumber, writeNumber, deleteNumber, lookupNumber}
 use Rattle.replies.specs.declared.Reply.{Reply}
 use Rattle.writing.specs.Writing.{writeReply, writeTable}
-use Rattle.writing.proofs.Accepted.{Filed, filed, table-kept}
+use Rattle.writing.proofs.Accepted.{WrittenTo, written-to, table-kept}
 use Rattle.archive.proofs.Small.{Small, addServer-small, reweight-small, write-small, delete-small, lookup-small}
 use Rattle.history.specs.Call.{Call, addServer, reweight, write, delete, lookup, batch}
 use Rattle.history.specs.Machine.{State, reply, next}
@@ -57,12 +57,12 @@ module _ (S : State) (number subject amount : ℕ) where
     unfolding callOf replyTo reply
     written-here d = e ∙ rw d
 
-    filed-here : number ≡ writeNumber → r .refusal ≡ 0 → Filed (S .table) (S .medium) subject amount (r .server)
-    filed-here d z = filed (S .table) (S .medium) subject amount r (written-here d) z
+    written-to-here : number ≡ writeNumber → r .refusal ≡ 0 → WrittenTo (S .table) (S .medium) subject amount (r .server)
+    written-to-here d z = written-to (S .table) (S .medium) subject amount r (written-here d) z
 
     pub counts : number ≡ writeNumber → r .refusal ≡ 0 → (r .server < 256) × (usedOf (S .table) (r .server) < 65536)
     counts d z =
-        let f = filed-here d z in
+        let f = written-to-here d z in
         let s = sound-facts (S .table) (f .isSound) in
         (omega arith, omega arith)
 
@@ -73,7 +73,7 @@ module _ (S : State) (number subject amount : ℕ) where
         (λ d.
         let is = eqb-true number writeNumber d in
         rw d (byBool (eqb (r .refusal) 0)
-        (λ z. rw z (filed-here is (eqb-true (r .refusal) 0 z) .table ∙ written-table is))
+        (λ z. rw z (written-to-here is (eqb-true (r .refusal) 0 z) .table ∙ written-table is))
         (λ z. rw z (table-kept (S .table) (S .medium) subject amount r (written-here is) (eqb-false (r .refusal) 0 z) ∙ written-table is))))
         (λ d. rw d (sym (same-table a b (eqb-false number writeNumber d))))
 

@@ -29,9 +29,9 @@ use Rattle.replies.specs.declared.Reply.{Reply}
 use Rattle.replies.specs.Reply.{refused, replyBy}
 use Rattle.replies.proofs.Refusals.{settle-yes, settle-no, numbered}
 use Rattle.checks.specs.Ready.{short, readyRows}
-use Rattle.lookup.specs.Search.{Place, searchFor}
-use Rattle.lookup.proofs.Searches.{met-some, met-none}
-use Rattle.writing.specs.Writing.{target}
+use Rattle.search.specs.Search.{Place, searchFor}
+use Rattle.search.proofs.Searches.{met-some, met-none}
+use Rattle.planning.specs.WriteRows.{target}
 use Rattle.history.specs.Call.{compared}
 use Rattle.history.specs.Ledger.{Ledger, Entered, enterBy, put, usedBy, standing, shortL, readyRowsL, targetL}
 use Rattle.history.proofs.Tops.{TopAt, top-same}

@@ -9,7 +9,7 @@ use lib.Dec.{leb}
 use Rattle.lists.specs.Below.{nth}
 use Rattle.table.specs.declared.Table.{Table}
 use Rattle.replies.proofs.Refusals.{settle-both}
-use Rattle.lookup.specs.Opened.{lowest, opens}
+use Rattle.search.specs.Opened.{lowest, opens}
 use Rattle.lookup.specs.Lookup.{lookupRows}
 use Rattle.lookup.proofs.Passed.{in-range}
 use Rattle.batch_answer.proofs.Orders.{batch-cong}

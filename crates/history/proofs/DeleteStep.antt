@@ -15,7 +15,7 @@ use Rattle.table.specs.declared.Table.{Table}
 use Rattle.table.specs.Parts.{reads}
 use Rattle.replies.specs.Refusal.{firstOf}
 use Rattle.replies.proofs.Refusals.{settle-yes, settle-no, first-same, more-same}
-use Rattle.lookup.specs.Search.{searchFor}
+use Rattle.search.specs.Search.{searchFor}
 use Rattle.checks.proofs.Passed.{ready-numbered}
 use Rattle.lookup.specs.Lookup.{lookupRows}
 use Rattle.lookup.proofs.Passed.{in-range}

@@ -11,7 +11,7 @@ use lib.ListN.{length}
 use lib.Dec.{eqb}
 use borrow.Author.Tests.{not-true, eqb-true, eq-eqb, ne-eqb}
 use Rattle.lists.proofs.Tests.{byBool, and-l, and-r}
-use Rattle.lookup.specs.Search.{Place}
+use Rattle.search.specs.Search.{Place}
 use Rattle.history.specs.Ledger.{Event, wrote, deleted, Standing, usedBy, standing}
 use Rattle.history.specs.Demand3.{untouched, LastWrite}
 

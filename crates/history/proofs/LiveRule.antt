@@ -18,7 +18,8 @@ use Rattle.table.specs.Parts.{usedOf}
 use Rattle.replies.specs.Refusal.{Row, firstOf, settle}
 use Rattle.replies.proofs.Refusals.{settle-yes, settle-no}
 use Rattle.deletion.specs.Deletion.{deleteRows, deleteMarks, deleteMedium}
-use Rattle.writing.specs.Writing.{target, writeRows, writeBurns, writeMedium}
+use Rattle.planning.specs.WriteRows.{target, writeRows}
+use Rattle.writing.specs.Writing.{writeBurns, writeMedium}
 use Rattle.servers.specs.Servers.{startRows}
 use Rattle.history.specs.Call.{Call, addServer, reweight, write, delete, lookup, batch}
 use Rattle.history.specs.Machine.{State, next, after, begin}

@@ -20,11 +20,11 @@ use Rattle.table.specs.Parts.{reads}
 use Rattle.replies.specs.Refusal.{firstOf}
 use Rattle.replies.specs.Reply.{refused, replyBy}
 use Rattle.replies.proofs.Refusals.{settle-yes}
-use Rattle.lookup.specs.Search.{Place, searchFor}
+use Rattle.search.specs.Search.{Place, searchFor}
 use Rattle.checks.specs.Ready.{short, readyRows}
 use Rattle.lookup.specs.Lookup.{lookupRows, metReply, lookupReply}
-use Rattle.lookup.specs.Opened.{lowest, opens}
-use Rattle.lookup.proofs.Searches.{opened-are}
+use Rattle.search.specs.Opened.{lowest, opens}
+use Rattle.search.proofs.Searches.{opened-are}
 use Rattle.lookup.proofs.Passed.{in-range}
 use Rattle.history.specs.Call.{lookup, compared}
 use Rattle.history.specs.Ledger.{Ledger, Standing, standing, lookupRowsL, openedFrom, standingReply, enter}

@@ -26,8 +26,9 @@ use Rattle.upkeep.proofs.KeptSound.{withEntry-sound}
 use Rattle.replies.specs.Refusal.{firstOf}
 use Rattle.replies.proofs.Refusals.{more-same, settle-yes, settle-no}
 use Rattle.checks.proofs.Passed.{ready-numbered, ready-tests}
-use Rattle.writing.specs.Writing.{target, entryRows, writeRows, writeMarks, writeBurns, writeReply, writeTable, writeMedium}
-use Rattle.writing.proofs.Accepted.{write-accepted}
+use Rattle.planning.specs.WriteRows.{target, entryRows, writeRows}
+use Rattle.writing.specs.Writing.{writeMarks, writeBurns, writeReply, writeTable, writeMedium}
+use Rattle.planning.proofs.Passed.{write-accepted}
 use Rattle.history.specs.Call.{write, compared}
 use Rattle.history.specs.Ledger.{wrote, Ledger, told, usedBy, withEvent, writeRowsL, enter}
 use Rattle.history.proofs.Events.{used-self, used-other}

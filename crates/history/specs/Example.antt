@@ -12,11 +12,12 @@ use Rattle.upkeep.specs.Upkeep.{withServer, withWeight, oneMore, withEntry}
 use Rattle.replies.specs.Refusal.{firstOf, settle}
 use Rattle.replies.specs.declared.Reply.{Reply}
 use Rattle.replies.specs.Reply.{refused, onServer, found, replyBy}
-use Rattle.lookup.specs.Search.{lastLive, opening, searchBelow, searchFor}
+use Rattle.search.specs.Search.{lastLive, opening, searchBelow, searchFor}
 use Rattle.checks.specs.Ready.{short, readyRows}
 use Rattle.lookup.specs.Lookup.{lookupRows, metReply, lookupReply}
 use Rattle.deletion.specs.Deletion.{isMet, deleteRows, deleteMarks, deleteReply, deleteMedium}
-use Rattle.writing.specs.Writing.{target, entryRows, writeRows, writeMarks, writeBurns, writeReply, writeTable, writeMedium}
+use Rattle.planning.specs.WriteRows.{target, entryRows, writeRows}
+use Rattle.writing.specs.Writing.{writeMarks, writeBurns, writeReply, writeTable, writeMedium}
 use Rattle.servers.specs.Servers.{startRows, startTable, addServerRows, addServerReply, addServerTable, reweightRows, reweightReply, reweightTable}
 use Rattle.history.specs.Call.{Call, addServer, reweight, write, delete, lookup, compared}
 use Rattle.history.specs.Machine.{reply, next, after, replies, begin}

@@ -1,5 +1,3 @@
-pub mod Finding
-pub mod Searches
 pub mod Passed
 mod Looked
 pub mod OpenedByValues

@@ -11,9 +11,9 @@ use Rattle.replies.specs.declared.Refusal.{Refusal}
 use Rattle.replies.specs.Refusal.{firstOf}
 use Rattle.replies.specs.Reply.{refused, numberOf}
 use Rattle.replies.proofs.Answers.{reply-refused, reply-done}
-use Rattle.lookup.specs.declared.Found.{Found}
-use Rattle.lookup.specs.declared.Found.the-variants.{At, Nowhere}
-use Rattle.lookup.specs.Search.{Place, Search, searchFor, foundAt, foundBy}
+use Rattle.search.specs.declared.Found.{Found}
+use Rattle.search.specs.declared.Found.the-variants.{At, Nowhere}
+use Rattle.search.specs.Search.{Place, Search, searchFor, foundAt, foundBy}
 use Rattle.lookup.specs.Lookup.{lookupRows, metReply, lookupReply}
 
 -- what a search that answers this met, and how many servers it opened

@@ -24,12 +24,12 @@ use Rattle.table.proofs.Soundness.{sound-facts}
 use Rattle.replies.specs.Refusal.{firstOf}
 use Rattle.replies.specs.Reply.{refused, found}
 use Rattle.replies.proofs.Refusals.{reply-same}
-use Rattle.lookup.specs.Search.{Place, Search, lastLive, opening, searchBelow, searchFor}
+use Rattle.search.specs.Search.{Place, Search, lastLive, opening, searchBelow, searchFor}
 use Rattle.checks.specs.Ready.{short}
 use Rattle.checks.proofs.Passed.{ready-same}
 use Rattle.lookup.specs.Lookup.{lookupRows, metReply, lookupReply}
-use Rattle.lookup.specs.Opened.{lowest, opens, SameOpened}
-use Rattle.lookup.proofs.Searches.{reads-same, search-cases, search-low, met-some}
+use Rattle.search.specs.Opened.{lowest, opens, SameOpened}
+use Rattle.search.proofs.Searches.{reads-same, search-cases, search-low, met-some}
 
 module _ (t u : Table) (m w : List ℕ) (id : ℕ) where
   -- searches that read the same servers, and find the same last live entries on those that the first opens, are the same

@@ -20,11 +20,11 @@ use Rattle.table.specs.Sound.{sound}
 use Rattle.table.proofs.Soundness.{sound-facts}
 use Rattle.replies.specs.Refusal.{firstOf}
 use Rattle.checks.proofs.Passed.{ready-tests}
-use Rattle.lookup.specs.Search.{Place, searchFor}
+use Rattle.search.specs.Search.{Place, searchFor}
 use Rattle.lookup.specs.Lookup.{lookupRows}
-use Rattle.lookup.specs.Opened.{lowest, opens}
+use Rattle.search.specs.Opened.{lowest, opens}
 use Rattle.lookup.proofs.Passed.{lookup-accepted}
-use Rattle.lookup.proofs.Searches.{met-some, opened-are}
+use Rattle.search.proofs.Searches.{met-some, opened-are}
 
 -- its ReadP is at least its WriteP, which is 1/1 and exceeds every draw
 pub zero-read : (t : Table) → sound t ≡ true → 0 < t .count → (id : ℕ) → reads t id 0 ≡ true

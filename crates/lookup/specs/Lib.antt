@@ -1,3 +1,1 @@
-pub mod Search
 pub mod Lookup
-pub mod Opened

@@ -15,7 +15,7 @@ use Rattle.replies.specs.Refusal.{Row}
 use Rattle.replies.specs.declared.Reply.{Reply}
 use Rattle.replies.specs.Reply.{refused, found, replyBy}
 use Rattle.checks.specs.Ready.{readyRows}
-use Rattle.lookup.specs.Search.{Place, searchFor}
+use Rattle.search.specs.Search.{Place, searchFor}
 
 unfoldable pub lookupRows : Table → List ℕ → ℕ → List Row
 lookupRows t m id = readyRows t m (leb contentRange id)

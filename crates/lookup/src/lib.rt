@@ -1,12 +1,69 @@
 // Lookup: the value of an id, or why there is none, and how many servers were opened.
-mod search;
+ghost use mathlib.Core.Path.{_≡_};
+ghost use mathlib.Core.Option.{some};
+ghost use Prim.Native.Nat.{_<_};
+ghost use Rattle.medium.specs.Entry.{Inside};
+ghost use Rattle.table.specs.Parts.{tableOf};
+ghost use Rattle.replies.specs.Reply.{replyOfLookup};
+ghost use Rattle.lookup.specs.Lookup.{metReply, lookupReply};
+use limits::CONTENT_RANGE;
+use replies::Check;
+use replies::LookupAnswer;
+use replies::Refusal;
+use search::Found;
+use table::Columns;
+use table::Shape;
+use table::Table;
 
-pub use search::lookup;
-pub use search::lookup_in;
-pub use search::met;
+// The answer for the entry that a lookup meets: its value, or that its value word has another tag.
+pub fn met(
+    capacity: u32,
+    medium: &[u32],
+    server: usize,
+    entry: usize,
+    opened: usize,
+) -> LookupAnswer
+    requires { ⌜ Inside capacity server (now medium) ⌝ }
+    requires { ⌜ entry < capacity ⌝ }
+    ensures { λ r. ⌜ replyOfLookup r ≡ metReply capacity (now (medium .entry)) opened (some (record { server = server; entry = entry })) ⌝ }
+{
+    let word = medium[medium::entry_at(capacity as usize, server, entry) + medium::VALUE_PLACE];
+    if word / CONTENT_RANGE == 1 {
+        LookupAnswer::Found(word % CONTENT_RANGE, opened)
+    } else {
+        LookupAnswer::Refused(Refusal::Corrupt, opened)
+    }
+}
 
-// What a search meets: the server and the entry there, or nothing; and how many servers it opened.
-enum Found {
-    At(usize, usize, usize),
-    Nowhere(usize),
+// Lookup on a table whose arrays are borrowed: the value of an id, or why there is none, and how many servers were opened.
+pub fn lookup_in<'a>(shape: Shape, columns: Columns<'a>, medium: &[u32], id: u32) -> LookupAnswer
+    ensures { λ r. ⌜ replyOfLookup r ≡ lookupReply (tableOf shape (columns .entry)) (now (medium .entry)) id ⌝ }
+{
+    let capacity = shape.capacity;
+    let check = checks::ready(shape, columns, medium, CONTENT_RANGE <= id);
+    if let Check::Refused(refusal) = check {
+        return LookupAnswer::Refused(refusal, 0);
+    }
+    let found = search::find(shape, columns, medium, id);
+    match found {
+        Found::Nowhere(opened) => LookupAnswer::Refused(Refusal::NotFound, opened),
+        Found::At(server, entry, opened) => met(capacity, medium, server, entry, opened),
+    }
+}
+
+// Lookup on a table by value.
+pub fn lookup(table: Table, medium: &[u32], id: u32) -> LookupAnswer
+    ensures { λ r. ⌜ replyOfLookup r ≡ lookupReply table (now (medium .entry)) id ⌝ }
+{
+    let shape = Shape {
+        capacity: table.capacity,
+        count: table.count,
+    };
+    let columns = [
+        &table.weights,
+        &table.used,
+        &table.numerators,
+        &table.denominators,
+    ];
+    lookup_in(shape, columns, medium, id)
 }

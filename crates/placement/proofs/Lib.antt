@@ -2,4 +2,3 @@ mod Product
 pub mod Draws
 pub mod Fractions
 pub mod Rules
-mod Picking

@@ -2,4 +2,3 @@ pub mod Draw
 pub mod Fraction
 pub mod Rule
 pub mod KnownDraws
-pub mod Picks

@@ -1,17 +1,13 @@
 // The published method on plain numbers: the draw of an id on a server, the comparison of a fraction with a draw,
-// WriteP, and the write servers of ids. No table and no medium.
+// WriteP, and the write server of an id. No table and no medium.
 ghost use mathlib.Core.Path.{_≡_};
 ghost use Prim.Native.Nat.{_<_};
-ghost use lib.ListN.{length};
 ghost use Rattle.limits.specs.Limits.{maxServers};
-ghost use Rattle.lists.specs.Below.{nth, total, setBelow};
+ghost use Rattle.lists.specs.Below.{nth, total};
 ghost use Rattle.placement.specs.Draw.{modulus, stepOf, seedOf, roundOf, drawOf};
 ghost use Rattle.placement.specs.Fraction.{exceeds, atLeast};
 ghost use Rattle.placement.specs.Rule.{shareOf, writeServer, Bounded};
-ghost use Rattle.placement.specs.Picks.{bounded, picksOf};
 use limits::Column;
-use limits::MAX_CAPACITY;
-use limits::MAX_SERVERS;
 
 // A fraction as document 01 keeps it: a pair, not reduced.
 pub struct Fraction {
@@ -139,45 +135,4 @@ pub fn write_server(weights: &Column, count: usize, id: u32) -> usize
         sum -= weight;
     }
     0
-}
-
-// Whether there are 1 to 256 weights, each of at most 65,536.
-fn are_bounded(weights: &[u32]) -> bool
-    ensures { λ r. ⌜ r ≡ bounded (now (weights .entry)) ⌝ }
-{
-    if weights.len() < 1 {
-        return false;
-    }
-    if weights.len() > MAX_SERVERS {
-        return false;
-    }
-    let mut i: usize = 0;
-    while i < weights.len() {
-        if weights[i] > MAX_CAPACITY {
-            return false;
-        }
-        i += 1;
-    }
-    true
-}
-
-// The write servers of many ids over the same weights: as many as both slices have room for, and none where there is no
-// weight, more than 256 or one above 65,536.
-#[no_mangle]
-pub extern "C" fn picks(weights: &[u32], ids: &[u32], servers: &mut [u32]) -> usize
-    ensures number { λ r. ⌜ r ≡ picksOf (now (weights .entry)) (now (ids .entry)) (now (servers .entry)) ⌝ }
-    ensures servers { λ r. ⌜ now (servers .exit) ≡ setBelow (λ i. writeServer (nth (now (weights .entry))) (length (now (weights .entry))) (nth (now (ids .entry)) i)) r (now (servers .entry)) ⌝ }
-{
-    if !are_bounded(weights) {
-        return 0;
-    }
-    let count = weights.len();
-    let array = lists::array_at(weights, 0, count);
-    let n = lists::lesser(ids.len(), servers.len());
-    let mut i: usize = 0;
-    while i < n {
-        servers[i] = write_server(&array, count, ids[i]) as u32;
-        i += 1;
-    }
-    n
 }

@@ -10,7 +10,8 @@ use Rattle.table.specs.declared.Table.{Table}
 use Rattle.upkeep.specs.Upkeep.{withServer, withWeight, withEntry}
 use Rattle.table.specs.Words.{tableLength, tableFrom, withTable}
 use Rattle.replies.proofs.Refusals.{settle-either}
-use Rattle.writing.specs.Writing.{writeRows, writeTable}
+use Rattle.planning.specs.WriteRows.{writeRows}
+use Rattle.writing.specs.Writing.{writeTable}
 use Rattle.servers.specs.Servers.{addServerRows, addServerTable, reweightRows, reweightTable}
 use Rattle.servers.proofs.Accepted.{addServer-accepted}
 use Rattle.history.specs.Call.{Call, addServer, reweight, write, delete, lookup, batch}

@@ -10,10 +10,10 @@ use Rattle.lists.proofs.Tests.{byBool}
 use Rattle.medium.specs.Word.{blank}
 use Rattle.replies.specs.Refusal.{firstOf, settle}
 use Rattle.servers.specs.Servers.{startRows, startTable}
-use Rattle.text.specs.declared.Line.{Line}
-use Rattle.text.specs.declared.Line.the-variants as line
-use Rattle.text.specs.Line.{lineOf}
-use Rattle.text.specs.Print.{question}
+use Rattle.parsing.specs.declared.Line.{Line}
+use Rattle.parsing.specs.declared.Line.the-variants as line
+use Rattle.parsing.specs.Line.{lineOf}
+use Rattle.printing.specs.Print.{question}
 use Rattle.sheet.specs.Sheet.{linesOf, Sheet, started, called, lineRun, run, outputOf}
 
 abbrev fresh : List ℕ → Sheet

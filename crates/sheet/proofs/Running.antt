@@ -21,10 +21,10 @@ use Rattle.servers.specs.Servers.{startRows, startReply, startTable}
 use Rattle.history.specs.Machine.{State}
 use Rattle.encoding.specs.ByNumber.{callOf, replyTo, nextBy}
 use Rattle.replay.proofs.Replaying.{start-number}
-use Rattle.text.specs.declared.Line.{Line}
-use Rattle.text.specs.declared.Line.the-variants as line
-use Rattle.text.specs.Letter.{startLetter}
-use Rattle.text.specs.Print.{printed, question, answered}
+use Rattle.parsing.specs.declared.Line.{Line}
+use Rattle.parsing.specs.declared.Line.the-variants as line
+use Rattle.letters.specs.Letter.{startLetter}
+use Rattle.printing.specs.Print.{printed, question, answered}
 use Rattle.sheet.specs.declared.InUse.{InUse}
 use Rattle.sheet.specs.Sheet.{Sheet, Done, sheetOf, started, called, lineRun}
 

@@ -16,12 +16,12 @@ use Rattle.lists.proofs.Tests.{byBool}
 use Rattle.table.specs.declared.Table.{Table}
 use Rattle.replies.specs.Number.{addServerNumber, reweightNumber, writeNumber, deleteNumber, lookupNumber}
 use Rattle.replies.specs.declared.Reply.{Reply}
-use Rattle.text.specs.declared.Line.{Line}
-use Rattle.text.specs.declared.Line.the-variants as line
-use Rattle.text.specs.Letter.{startLetter, letterOf}
-use Rattle.text.specs.Line.{lineOf, endBelow, endOf}
-use Rattle.text.specs.Print.{printed, question, answered}
-use Rattle.text.proofs.Printing.{decimal-short, length-line}
+use Rattle.parsing.specs.declared.Line.{Line}
+use Rattle.parsing.specs.declared.Line.the-variants as line
+use Rattle.letters.specs.Letter.{startLetter, letterOf}
+use Rattle.parsing.specs.Line.{lineOf, endBelow, endOf}
+use Rattle.printing.specs.Print.{printed, question, answered}
+use Rattle.printing.proofs.Printing.{decimal-short, length-line}
 use Rattle.sheet.specs.declared.InUse.{InUse}
 use Rattle.sheet.specs.Sheet.{longer, linesOf, Sheet, Done, sheetOf, started, called, lineRun, run, outputOf}
 

@@ -13,17 +13,18 @@ use Rattle.table.specs.Sound.{readSound, serverSound, sound}
 use Rattle.upkeep.specs.Upkeep.{withServer, withWeight, oneMore, withEntry}
 use Rattle.replies.specs.Refusal.{firstOf, settle}
 use Rattle.replies.specs.Reply.{replyBy}
-use Rattle.lookup.specs.Search.{lastLive, opening, searchBelow, searchFor}
+use Rattle.search.specs.Search.{lastLive, opening, searchBelow, searchFor}
 use Rattle.checks.specs.Ready.{short, readyRows}
 use Rattle.lookup.specs.Lookup.{lookupRows, metReply, lookupReply}
 use Rattle.deletion.specs.Deletion.{isMet, deleteRows, deleteMarks, deleteReply, deleteMedium}
-use Rattle.writing.specs.Writing.{target, entryRows, writeRows, writeMarks, writeBurns, writeReply, writeTable, writeMedium}
+use Rattle.planning.specs.WriteRows.{target, entryRows, writeRows}
+use Rattle.writing.specs.Writing.{writeMarks, writeBurns, writeReply, writeTable, writeMedium}
 use Rattle.servers.specs.Servers.{startRows, startReply, startTable, addServerRows, addServerReply, addServerTable, reweightRows, reweightReply, reweightTable}
 use Rattle.history.specs.Machine.{reply, next}
 use Rattle.encoding.specs.ByNumber.{callOf, replyTo, nextBy}
-use Rattle.text.specs.Letter.{letters, letterOf, numberFor}
-use Rattle.text.specs.Line.{isDigit, digitRun, valueOf, numberAt, spaced, lineBy, hasTwo, last, first, lineOf}
-use Rattle.text.specs.Print.{digits, decimal, printed, question, answered}
+use Rattle.letters.specs.Letter.{letters, letterOf, numberFor}
+use Rattle.parsing.specs.Line.{isDigit, digitRun, valueOf, numberAt, spaced, lineBy, hasTwo, last, first, lineOf}
+use Rattle.printing.specs.Print.{digits, decimal, printed, question, answered}
 use Rattle.sheet.specs.Sheet.{longer, linesOf, started, called, lineRun, run, outputOf}
 
 -- a line each, LF at its end

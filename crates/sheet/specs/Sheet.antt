@@ -11,11 +11,11 @@ use Rattle.replies.specs.Refusal.{settle}
 use Rattle.servers.specs.Servers.{startRows, startReply, startTable}
 use Rattle.history.specs.Machine.{State}
 use Rattle.encoding.specs.ByNumber.{callOf, replyTo, nextBy}
-use Rattle.text.specs.declared.Line.{Line}
-use Rattle.text.specs.declared.Line.the-variants as line
-use Rattle.text.specs.Letter.{startLetter}
-use Rattle.text.specs.Line.{lineOf}
-use Rattle.text.specs.Print.{printed, question, answered}
+use Rattle.parsing.specs.declared.Line.{Line}
+use Rattle.parsing.specs.declared.Line.the-variants as line
+use Rattle.letters.specs.Letter.{startLetter}
+use Rattle.parsing.specs.Line.{lineOf}
+use Rattle.printing.specs.Print.{printed, question, answered}
 use Rattle.sheet.specs.declared.InUse.{InUse}
 
 -- the lines of an input: each LF ends one, and bytes after the last LF are a line too

@@ -5,7 +5,7 @@ ghost use mathlib.Core.Path.{_≡_};
 ghost use Prim.Native.Nat.{_*_, _≤_};
 ghost use lib.ListN.{length};
 ghost use lib.Seq.{sets};
-ghost use Rattle.text.specs.Print.{longestLine};
+ghost use Rattle.printing.specs.Print.{longestLine};
 ghost use Rattle.sheet.specs.Sheet.{outputOf};
 use table::Table;
 
@@ -32,7 +32,7 @@ pub fn run(input: &[u8], medium: &mut [u32], out: &mut [u8]) -> usize
     ensures words { λ _. ⌜ now (medium .exit) ≡ outputOf (now (input .entry)) (now (medium .entry)) .sheet .medium ⌝ }
 {
     if input.len() > MAX_INPUT {
-        return text::put_question(out, 0);
+        return printing::put_question(out, 0);
     }
     let mut in_use = InUse {
         started: false,
@@ -41,7 +41,7 @@ pub fn run(input: &[u8], medium: &mut [u32], out: &mut [u8]) -> usize
     let mut from: usize = 0;
     let mut at: usize = 0;
     while from < input.len() {
-        let end = text::line_end(input, from);
+        let end = parsing::line_end(input, from);
         let ran = lines::run_line(in_use, medium, &input[from..end], out, at);
         in_use = ran.in_use;
         at = ran.next;

@@ -4,14 +4,14 @@ ghost use Prim.Native.Nat.{_+_, _≤_};
 ghost use lib.ListN.{length, replicate};
 ghost use lib.Seq.{sets};
 ghost use Rattle.medium.specs.Word.{blank};
-ghost use Rattle.text.specs.declared.Line.the-variants as line;
-ghost use Rattle.text.specs.Line.{lineOf};
-ghost use Rattle.text.specs.Print.{longestLine, question};
+ghost use Rattle.parsing.specs.declared.Line.the-variants as line;
+ghost use Rattle.parsing.specs.Line.{lineOf};
+ghost use Rattle.printing.specs.Print.{longestLine, question};
 ghost use Rattle.sheet.specs.Sheet.{sheetOf, lineRun};
 use crate::InUse;
 use crate::Ran;
-use text::Line;
-use text::Parsed;
+use parsing::Line;
+use parsing::Parsed;
 
 // Makes every word blank.
 fn blank_all(words: &mut [u32])
@@ -31,7 +31,7 @@ fn ask(in_use: InUse, out: &mut [u8], at: usize) -> Ran
     ensures bytes { λ _. ⌜ now (out .exit) ≡ sets (now (out .entry)) at question ⌝ }
     ensures kept { λ r. ⌜ r .in_use ≡ in_use ⌝ }
 {
-    let next = text::put_question(out, at);
+    let next = printing::put_question(out, at);
     Ran { next, in_use }
 }
 
@@ -45,7 +45,7 @@ fn run_start(in_use: InUse, medium: &mut [u32], capacity: u32, out: &mut [u8], a
     let begun = servers::start(capacity);
     let answer = begun.answer;
     let reply = replies::start_reply(answer);
-    let next = text::put_answer(out, at, text::START, reply.refusal, 0, 0);
+    let next = printing::put_answer(out, at, letters::START, reply.refusal, 0, 0);
     if reply.refusal != 0 {
         return Ran { next, in_use };
     }
@@ -80,7 +80,7 @@ fn run_call(
     }
     let table = in_use.table;
     let ran = replay::run_call(table, medium, number, subject, amount);
-    let next = text::put_reply(out, at, number, ran.reply);
+    let next = printing::put_reply(out, at, number, ran.reply);
     let after = ran.table;
     Ran {
         next,
@@ -120,15 +120,15 @@ pub fn run_line(in_use: InUse, medium: &mut [u32], line: &[u8], out: &mut [u8], 
     ensures bytes { λ _. ⌜ now (out .exit) ≡ sets (now (out .entry)) at (lineRun (sheetOf in_use (now (medium .entry))) (lineOf (now (line .entry))) .bytes) ⌝ }
     ensures sheet { λ r. ⌜ sheetOf (r .in_use) (now (medium .exit)) ≡ lineRun (sheetOf in_use (now (medium .entry))) (lineOf (now (line .entry))) .sheet ⌝ }
 {
-    let one = text::number_after(line, 1);
+    let one = parsing::number_after(line, 1);
     let Parsed::Number(first, after_first) = one else {
         return ask(in_use, out, at);
     };
     let letter = line[0];
     let mut second: u32 = 0;
     let mut end = after_first;
-    if text::has_two(letter) {
-        let two = text::number_after(line, after_first);
+    if parsing::has_two(letter) {
+        let two = parsing::number_after(line, after_first);
         let Parsed::Number(number, after_second) = two else {
             return ask(in_use, out, at);
         };
@@ -141,7 +141,7 @@ pub fn run_line(in_use: InUse, medium: &mut [u32], line: &[u8], out: &mut [u8], 
     run_read(
         in_use,
         medium,
-        text::line_by(letter, first, second),
+        parsing::line_by(letter, first, second),
         out,
         at,
     )

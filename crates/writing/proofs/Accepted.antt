@@ -1,68 +1,25 @@
--- The write server, and what is known of a write that is accepted.
+-- A write by its reply: what is known of one that was accepted, and of one that was not.
 -- Assumes nothing.
 use Prim.Native.Nat.{ℕ, _<_}
 use mathlib.Core.Path.{_≡_, refl, sym, ap, _∙_}
 use mathlib.Core.Logic.{_≢_}
-use mathlib.Core.Bool.{true, not, _||_}
+use mathlib.Core.Bool.{true}
 use mathlib.Core.List.{List}
 use native.Mathlib.Omega.{arith}
-use lib.Dec.{leb, eqb}
-use borrow.Author.Tests.{leb-false, eqb-false, not-false}
-use Rattle.limits.specs.Limits.{contentRange}
-use Rattle.lists.proofs.Tests.{or-false}
-use Rattle.placement.specs.Draw.{modulus, drawOf}
-use Rattle.placement.specs.Rule.{Picked}
-use Rattle.placement.proofs.Rules.{writeServer-is}
-use Rattle.medium.specs.Entry.{entryAt, blankRun, AllInside}
 use Rattle.table.specs.declared.Table.{Table}
-use Rattle.table.specs.Parts.{weightOf, usedOf}
+use Rattle.table.specs.Parts.{usedOf}
 use Rattle.table.specs.Sound.{sound}
 use Rattle.upkeep.specs.Upkeep.{withEntry}
 use Rattle.replies.specs.Refusal.{firstOf}
 use Rattle.replies.specs.declared.Reply.{Reply}
-use Rattle.replies.proofs.Refusals.{settle-yes, settle-no, passed, passed-both}
+use Rattle.replies.proofs.Refusals.{settle-yes, settle-no}
 use Rattle.replies.proofs.Answers.{reply-done, reply-number}
-use Rattle.checks.proofs.Passed.{ready-numbered, ready-tests, ready-accepted}
-use Rattle.writing.specs.Writing.{target, entryRows, writeRows, writeReply, writeTable}
-
--- the write server is the published pick
-pub target-is : (t : Table) (id : ℕ) → 0 < t .count → Picked modulus (drawOf id) (weightOf t) (t .count) (target t id)
-unfolding target
-target-is t id l = writeServer-is (weightOf t) (t .count) id l
-
--- its numbers are in range, and it goes to a server that is there and has an entry left, which is blank
-pub record WriteAccepted (t : Table) (m : List ℕ) (id value : ℕ) : Type 0 where
-  pub isSound : sound t ≡ true
-  pub idSmall : id < contentRange
-  pub small : value < contentRange
-  pub there : target t id < t .count
-  pub free : usedOf t (target t id) < t .capacity
-  pub isBlank : blankRun m (entryAt (t .capacity) (target t id) (usedOf t (target t id))) 3 ≡ true
-  pub inside : AllInside (t .capacity) (t .count) (usedOf t) m
-
-pub write-accepted : (t : Table) (m : List ℕ) (id value : ℕ) → firstOf (writeRows t m id value) ≡ 0 → WriteAccepted t m id value
-unfolding writeRows entryRows
-write-accepted t m id value z =
-    let outside = leb contentRange id || leb contentRange value in
-    let p = passed-both _ (entryRows t m id) (ready-numbered t m outside) z in
-    let a = ready-tests t m outside (p .0) in
-    let r = ready-accepted t m outside (p .0) in
-    let f = passed 5 (eqb (usedOf t (target t id)) (t .capacity)) _ (p .1) in
-    let g = passed 6 (not (blankRun m (entryAt (t .capacity) (target t id) (usedOf t (target t id))) 3)) _ (f .1) in
-    let ranges = or-false (leb contentRange id) (leb contentRange value) (a .within) in
-    let l = target-is t id (omega (arith, eqb-false (t .count) 0 (a .none))) .below in
-    record {
-      isSound = r .isSound;
-      idSmall = leb-false _ _ (ranges .0);
-      small = leb-false _ _ (ranges .1);
-      there = l;
-      free = omega (arith, r .inside .fits (target t id) l, eqb-false (usedOf t (target t id)) (t .capacity) (f .0));
-      isBlank = not-false _ (g .0);
-      inside = r .inside;
-    }
+use Rattle.planning.specs.WriteRows.{target, writeRows}
+use Rattle.planning.proofs.Passed.{write-accepted}
+use Rattle.writing.specs.Writing.{writeReply, writeTable}
 
 -- a write by its reply: one of refusal 0 is accepted and names the write server, whose used grows by one
-pub record Filed (t : Table) (m : List ℕ) (id value server : ℕ) : Type 0 where
+pub record WrittenTo (t : Table) (m : List ℕ) (id value server : ℕ) : Type 0 where
   pub isSound : sound t ≡ true
   pub there : server < t .count
   pub free : usedOf t server < t .capacity
@@ -73,9 +30,9 @@ module _ (t : Table) (m : List ℕ) (id value : ℕ) (r : Reply) (e : r ≡ writ
   unfolding writeReply
   write-number = ap (λ (r : Reply). r .refusal) e ∙ reply-number (writeRows t m id value) _ refl
 
-  pub filed : r .refusal ≡ 0 → Filed t m id value (r .server)
+  pub written-to : r .refusal ≡ 0 → WrittenTo t m id value (r .server)
   unfolding writeReply writeTable
-  filed z =
+  written-to z =
       let y : firstOf (writeRows t m id value) ≡ 0 = sym write-number ∙ z in
       let a = write-accepted t m id value y in
       let k : r .server ≡ target t id = ap (λ (r : Reply). r .server) (e ∙ reply-done (writeRows t m id value) y _) in

@@ -18,8 +18,10 @@ use Rattle.replies.specs.Reply.{refused, onServer, numberOf, replyOfWrite}
 use Rattle.replies.proofs.Refusals.{settle-yes}
 use Rattle.replies.proofs.Answers.{number-not-zero, kept, reply-refused, reply-done}
 use Rattle.invalidation.specs.Marks.{marksFrom}
-use Rattle.writing.specs.Writing.{target, writeRows, writeMarks, writeReply, writeTable, writeMedium}
-use Rattle.writing.proofs.Accepted.{write-accepted, Filed, filed, table-kept}
+use Rattle.planning.specs.WriteRows.{target, writeRows}
+use Rattle.writing.specs.Writing.{writeMarks, writeReply, writeTable, writeMedium}
+use Rattle.planning.proofs.Passed.{write-accepted}
+use Rattle.writing.proofs.Accepted.{WrittenTo, written-to, table-kept}
 use Rattle.writing.proofs.NewEntry.{entered, entered-burns, entered-marks}
 
 -- a write that its tests refuse
@@ -56,9 +58,9 @@ module _ (t : Table) (m : List ℕ) (id value : ℕ) (z : firstOf (writeRows t m
 
 -- the table after a write, by its answer
 module _ (t : Table) (m : List ℕ) (id value : ℕ) {a : WriteAnswer} (e : replyOfWrite a ≡ writeReply t m id value) where
-  pub answered-written : {k n : ℕ} → a ≡ Written k n → Filed t m id value k
+  pub answered-written : {k n : ℕ} → a ≡ Written k n → WrittenTo t m id value k
   unfolding replyOfWrite
-  answered-written {k} {n} g = filed t m id value (onServer k n) (sym (ap replyOfWrite g) ∙ e) refl
+  answered-written {k} {n} g = written-to t m id value (onServer k n) (sym (ap replyOfWrite g) ∙ e) refl
 
   pub answered-refused : {r : Refusal} → a ≡ Refused r → t ≡ writeTable t m id value
   unfolding replyOfWrite

@@ -1,4 +1,3 @@
 pub mod Accepted
-mod EntryRows
 mod NewEntry
 mod Done

@@ -18,7 +18,8 @@ use Rattle.table.specs.declared.Table.{Table}
 use Rattle.table.specs.Parts.{usedOf}
 use Rattle.table.specs.Sound.{sound}
 use Rattle.table.proofs.Soundness.{sound-facts}
-use Rattle.writing.specs.Writing.{target, writeMarks, writeBurns}
+use Rattle.planning.specs.WriteRows.{target}
+use Rattle.writing.specs.Writing.{writeMarks, writeBurns}
 
 -- the new entry's first word, on the write server
 abbrev pub newAt : Table → ℕ → ℕ

@@ -1,38 +1,19 @@
--- Write (document 01, "The calls" and its table of refusals): its rows of refusals in the order of the tests, its reply, and
--- the table and the medium that it leaves. t is the table and m the medium as lent.
+-- Write (document 01, "The calls"): its reply, and the table and the medium that it leaves. t is the table and m the medium as
+-- lent.
 use Prim.Native.Nat.{ℕ}
-use mathlib.Core.Bool.{not, _||_}
-use mathlib.Core.List.{List, [], _∷_, _++_}
+use mathlib.Core.List.{List, _∷_}
 use lib.ListN.{length}
-use lib.Dec.{leb, eqb}
-use Rattle.limits.specs.Limits.{contentRange}
-use Rattle.placement.specs.Rule.{writeServer}
 use Rattle.medium.specs.Word.{idWord, valueWord, replaced}
-use Rattle.medium.specs.Entry.{entryWords, entryAt, valueAt, blankRun}
+use Rattle.medium.specs.Entry.{entryAt, valueAt}
 use Rattle.medium.specs.Burn.{Burn, burnAll, invalidations}
 use Rattle.table.specs.declared.Table.{Table}
-use Rattle.table.specs.Parts.{entriesOf, weightOf, usedOf}
+use Rattle.table.specs.Parts.{usedOf}
 use Rattle.upkeep.specs.Upkeep.{withEntry}
-use Rattle.replies.specs.Refusal.{Row, _when_, settle}
+use Rattle.replies.specs.Refusal.{settle}
 use Rattle.replies.specs.declared.Reply.{Reply}
 use Rattle.replies.specs.Reply.{onServer, replyBy}
-use Rattle.checks.specs.Ready.{readyRows}
+use Rattle.planning.specs.WriteRows.{target, writeRows}
 use Rattle.invalidation.specs.Marks.{marksFrom}
-
--- the server that a write goes to; its entry there is the server's used
-unfoldable pub target : Table → ℕ → ℕ
-target t id = writeServer (weightOf t) (t .count) id
-
--- what only a write tests: that its server is full, and that its entry there is not blank
-unfoldable pub entryRows : Table → List ℕ → ℕ → List Row
-entryRows t m id =
-    let k = target t id in
-    6 when eqb (usedOf t k) (entriesOf t)
-    ∷ 7 when not (blankRun m (entryAt (t .capacity) k (usedOf t k)) entryWords)
-    ∷ []
-
-unfoldable pub writeRows : Table → List ℕ → ℕ → ℕ → List Row
-writeRows t m id value = readyRows t m (leb contentRange id || leb contentRange value) ++ entryRows t m id
 
 -- the marks of the earlier live entries on readable servers at or above the write server
 unfoldable pub writeMarks : Table → List ℕ → ℕ → List ℕ

@@ -1,6 +1,4 @@
 // Write: a value and its id go to the write server, and earlier entries of the id are invalidated.
-mod planning;
-
 ghost use mathlib.Core.Path.{_≡_};
 ghost use Prim.Native.Nat.{_<_, _+_};
 ghost use lib.ListN.{length, set};
@@ -10,17 +8,11 @@ ghost use Rattle.medium.specs.Entry.{valuePlace};
 ghost use Rattle.table.specs.Parts.{tableOf};
 ghost use Rattle.replies.specs.Reply.{replyOfWrite};
 ghost use Rattle.writing.specs.Writing.{writeReply, writeTable, writeMedium};
-use replies::Refusal;
+use planning::Plan;
 use replies::WriteAnswer;
 use table::Columns;
 use table::Shape;
 use table::Table;
-
-// What the tests before a write say: the server that it goes to, or the refusal.
-enum Plan {
-    To(usize),
-    Refused(Refusal),
-}
 
 pub struct Written {
     pub answer: WriteAnswer,

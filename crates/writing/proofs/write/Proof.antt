@@ -4,7 +4,7 @@ use mathlib.Core.List.{List}
 use Prim.Native.Nat.{ℕ}
 use borrow.Author.Needs.{needs}
 use Rattle.table.specs.declared.Table.{Table}
-use Rattle.writing.proofs.Accepted.{Filed}
+use Rattle.writing.proofs.Accepted.{WrittenTo}
 use Rattle.writing.proofs.Done.{answered-written, answered-refused}
 use Rattle.writing.proofs.write.Statement.{statement}
 use Rattle.writing.proofs.write.Tie as tie
@@ -32,11 +32,11 @@ abbrev M : tie.After-write-in → List ℕ
 M c = S c .args .medium .now
 
 -- the write as it was answered
-filed-here : (c : tie.After-answer) → let w = W (c .before .before) in Filed (T w) (M w) (S w .args .id) (S w .args .value) (c .answer .given .0 .0)
-filed-here c = let w = W (c .before .before) in answered-written (T w) (M w) (S w .args .id) (S w .args .value) (w .write-in .ensures .0) (c .answer .given .1)
+written-to-here : (c : tie.After-answer) → let w = W (c .before .before) in WrittenTo (T w) (M w) (S w .args .id) (S w .args .value) (c .answer .given .0 .0)
+written-to-here c = let w = W (c .before .before) in answered-written (T w) (M w) (S w .args .id) (S w .args .value) (w .write-in .ensures .0) (c .answer .given .1)
 
 with-entry-requires : tie.Need-with-entry-requires
-with-entry-requires c κs = let f = filed-here (c .before) in (f .isSound, f .there)
+with-entry-requires c κs = let f = written-to-here (c .before) in (f .isSound, f .there)
 
 same-length : tie.Need-same-length
 same-length c = search needs
@@ -53,7 +53,7 @@ returns-2 : tie.Need-returns-2
 returns-2 c =
     let a = c .before .before in
     let w = W (a .before .before) in
-    (rw (← a .answer .given .1) (w .write-in .ensures .0), (c .with-entry .ensures ∙ filed-here a .table, w .write-in .ensures .1))
+    (rw (← a .answer .given .1) (w .write-in .ensures .0), (c .with-entry .ensures ∙ written-to-here a .table, w .write-in .ensures .1))
 
 pub write-spec : {M : Type 1} → statement M
 write-spec =

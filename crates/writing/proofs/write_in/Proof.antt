@@ -11,9 +11,9 @@ use Rattle.table.specs.Parts.{tableOf, usedOf}
 use Rattle.replies.specs.Refusal.{Row, firstOf}
 use Rattle.replies.specs.Reply.{numberOf, replyOfWrite}
 use Rattle.replies.proofs.Refusals.{settle-yes}
-use Rattle.writing.specs.Plan.{planNumber, planServer}
-use Rattle.writing.specs.Writing.{target, writeRows}
-use Rattle.writing.proofs.Accepted.{WriteAccepted, write-accepted}
+use Rattle.planning.specs.Plan.{planNumber, planServer}
+use Rattle.planning.specs.WriteRows.{target, writeRows}
+use Rattle.planning.proofs.Passed.{WriteAccepted, write-accepted}
 use Rattle.writing.proofs.Done.{write-refused, inside-set, written}
 use Rattle.writing.proofs.write_in.Statement.{statement}
 use Rattle.writing.proofs.write_in.Tie as tie

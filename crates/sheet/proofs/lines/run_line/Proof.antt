@@ -3,8 +3,8 @@ use mathlib.Core.Path.{_≡_, sym, ap, _∙_}
 use mathlib.Core.Logic.{⊎-elim}
 use mathlib.Core.Option.{some}
 use borrow.Author.Needs.{needs}
-use Rattle.text.specs.Line.{spaced, lineOf}
-use Rattle.text.proofs.Reading.{nothing-read, number-there, inside-line, no-first, no-second, wholeOf, with-second, without-second, more-after, none-after}
+use Rattle.parsing.specs.Line.{spaced, lineOf}
+use Rattle.parsing.proofs.Reading.{nothing-read, number-there, inside-line, no-first, no-second, wholeOf, with-second, without-second, more-after, none-after}
 use Rattle.sheet.specs.Sheet.{sheetOf, lineRun}
 use Rattle.sheet.proofs.Running.{shown, asked, not-read}
 use Rattle.sheet.proofs.lines.run_line.Statement.{statement}

@@ -1,0 +1,76 @@
+-- A batch step by step, for the contracts of the functions that run it: what one server makes of one id's part in it.
+use Prim.Native.Nat.{ℕ, suc}
+use mathlib.Core.Bool.{cond, _&&_}
+use mathlib.Core.List.{List}
+use mathlib.Core.Option.{Option, none, some}
+use lib.ListN.{length, replicate}
+use lib.Dec.{leb, eqb}
+use Rattle.limits.specs.Limits.{maxIds, contentRange}
+use Rattle.lists.specs.Below.{nth, highest, setBelow}
+use Rattle.placement.specs.declared.Fraction.{Fraction}
+use Rattle.placement.specs.Draw.{modulus, drawOf}
+use Rattle.placement.specs.Fraction.{exceeds}
+use Rattle.medium.specs.Entry.{live}
+use Rattle.lookup.specs.Lookup.{metReply}
+use Rattle.batch_answer.specs.Answer.{filled}
+use Rattle.batch_steps.specs.declared.Newest.{Newest}
+use Rattle.batch_steps.specs.declared.Newest.the-variants.{Entry, Nothing}
+use Rattle.batch_steps.specs.declared.Progress.{Progress}
+use Rattle.batch_steps.specs.declared.Parts.{Parts}
+
+-- what the search of one server answers
+unfoldable pub newestBy : Option ℕ → Newest
+newestBy none = Nothing
+newestBy (some j) = Entry j
+
+-- the refusal of an id for which no entry was met yet: it is 8, absent, unless a test has refused the id already
+unfoldable pub absentSoFar : ℕ → ℕ
+absentSoFar number = cond (eqb number 0) 8 number
+
+-- the refusal of an id before any server is opened. `number` is what the tests say of an id in range; for another id they
+-- differ by its range alone, right after the table's soundness
+unfoldable pub firstRefusal : ℕ → ℕ → ℕ
+firstRefusal number id = cond (eqb number 1) 1 (cond (leb contentRange id) 2 (absentSoFar number))
+
+-- server k is opened for an id, as one of this many: an entry there ends the search
+unfoldable pub visited : ℕ → List ℕ → ℕ → ℕ → Option ℕ → Progress
+visited capacity m k opened none = record { refusal = 8; value = 0; opened = opened; end = suc k }
+visited capacity m k opened (some j) =
+    let r = metReply capacity m opened (some (record { server = k; entry = j })) in
+    record { refusal = r .refusal; value = r .value; opened = opened; end = suc k }
+
+-- server k with this ReadP and this many entries used: it is opened for an id that is absent so far, if it is read for it
+unfoldable pub stepped : Fraction → ℕ → ℕ → List ℕ → ℕ → ℕ → Progress → Progress
+stepped read capacity used m id k p =
+    cond (eqb (p .refusal) 8 && exceeds modulus read (drawOf id k))
+    (visited capacity m k (suc (p .opened)) (highest (live capacity used m id k) used))
+    p
+
+-- the part of the id at position i
+abbrev pub progressAt : Parts → ℕ → Progress
+progressAt parts i = record { refusal = nth (parts .refusals) i; value = nth (parts .values) i; opened = nth (parts .opened) i; end = nth (parts .ends) i }
+
+-- before any server is opened, for the first n ids
+unfoldable pub firstParts : ℕ → List ℕ → ℕ → Parts
+firstParts number ids n = record {
+  refusals = filled (λ i. firstRefusal number (nth ids i)) n;
+  values = replicate maxIds 0;
+  opened = replicate maxIds 0;
+  ends = replicate maxIds 0;
+}
+
+-- the first n parts by f, and the rest as they are
+unfoldable pub withParts : (ℕ → Progress) → ℕ → Parts → Parts
+withParts f n parts = record {
+  refusals = setBelow (λ i. f i .refusal) n (parts .refusals);
+  values = setBelow (λ i. f i .value) n (parts .values);
+  opened = setBelow (λ i. f i .opened) n (parts .opened);
+  ends = setBelow (λ i. f i .end) n (parts .ends);
+}
+
+-- server k for every id
+unfoldable pub steppedAt : Fraction → ℕ → ℕ → List ℕ → List ℕ → ℕ → Parts → ℕ → Progress
+steppedAt read capacity used m ids k parts i = stepped read capacity used m (nth ids i) k (progressAt parts i)
+
+unfoldable pub steppedAll : Fraction → ℕ → ℕ → List ℕ → List ℕ → ℕ → Parts → Parts
+steppedAll read capacity used m ids k parts = withParts (steppedAt read capacity used m ids k parts) (length ids) parts

@@ -1,0 +1,120 @@
+-- `lookup::lookup_in` meets its contract: what the tests say, and what the search met.
+use Prim.Native.Nat.{ℕ}
+use mathlib.Core.Path.{_≡_}
+use mathlib.Core.List.{List}
+use native.Mathlib.Omega.{arith}
+use borrow.Author.Needs.{needs}
+use Rattle.medium.proofs.Entries.{live-used}
+use Rattle.table.specs.declared.Table.{Table}
+use Rattle.table.specs.Parts.{tableOf, usedOf}
+use Rattle.replies.specs.Refusal.{firstOf}
+use Rattle.replies.specs.Reply.{numberOf, replyOfLookup}
+use Rattle.replies.proofs.Answers.{check-refused, check-accepted}
+use Rattle.search.specs.Search.{searchFor}
+use Rattle.lookup.specs.Lookup.{lookupRows}
+use Rattle.search.specs.Opened.{Met}
+use Rattle.checks.proofs.Passed.{Ready}
+use Rattle.lookup.proofs.Passed.{lookup-accepted}
+use Rattle.search.proofs.Finding.{each-inside}
+use Rattle.search.proofs.Searches.{met-some}
+use Rattle.lookup.proofs.Looked.{found-some, looked-none, looked-some, lookup-refused}
+use Rattle.lookup.proofs.lookup_in.Statement.{statement}
+use Rattle.lookup.proofs.lookup_in.Tie as tie
+
+ready-requires : tie.Need-ready-requires
+ready-requires c κs = search needs
+
+enum-known-check : tie.Need-enum-known-check
+enum-known-check c = search needs
+
+-- the call's arguments
+abbrev S : tie.After-ready → tie.Start
+S c = c .before .before
+
+abbrev T : tie.After-ready → Table
+T c = let a = S c .args in tableOf (a .shape) (a .columns)
+
+abbrev M : tie.After-ready → List ℕ
+M c = S c .args .medium .now
+
+refused-here : (c : tie.After-check) → numberOf (c .check .given .0 .0) ≡ firstOf (lookupRows (T (c .before .before)) (M (c .before .before)) (S (c .before .before) .args .id))
+unfolding lookupRows
+refused-here c = check-refused (lookupRows (T (c .before .before)) (M (c .before .before)) (S (c .before .before) .args .id)) (c .before .before .ready .ensures) (c .check .given .1)
+
+accepted-here : (c : tie.After-enum-told) → firstOf (lookupRows (T (c .before .before)) (M (c .before .before)) (S (c .before .before) .args .id)) ≡ 0
+unfolding lookupRows
+accepted-here c = check-accepted (lookupRows (T (c .before .before)) (M (c .before .before)) (S (c .before .before) .args .id)) (c .before .before .ready .ensures) (c .enum-told .given .1)
+
+returns : tie.Need-returns
+unfolding replyOfLookup
+returns c = let r = c .before .before .before in lookup-refused (T r) (M r) (S r .args .id) _ (refused-here (c .before))
+
+enum-told : tie.Need-enum-told
+enum-told c = search needs
+
+ready-here : (c : tie.After-enum-told) → Ready (T (c .before .before)) (M (c .before .before))
+ready-here c = lookup-accepted _ _ _ (accepted-here c)
+
+find-requires : tie.Need-find-requires
+find-requires c κs = ready-here c .inside
+
+-- where the search's answer is known
+abbrev E : tie.After-find → tie.After-enum-told
+E c = c .before
+
+abbrev R : tie.After-find → tie.After-ready
+R c = E c .before .before
+
+enum-known-found : tie.Need-enum-known-found
+enum-known-found c = search needs
+
+enum-known-found-2 : tie.Need-enum-known-found-2
+enum-known-found-2 c = search needs
+
+returns-2 : tie.Need-returns-2
+unfolding replyOfLookup numberOf
+returns-2 c =
+    let f = c .before .before .before in
+    let r = R f in
+    looked-none (T r) (M r) (S r .args .id) (accepted-here (E f)) _ (f .find .ensures) (c .before .found .given .1)
+
+-- the entry met: its server is there, and it is used
+met-here : (c : tie.After-found2) → Met (T (R (c .before .before))) (M (R (c .before .before))) (S (R (c .before .before)) .args .id) (record { server = c .found2 .given .0 .0; entry = c .found2 .given .0 .1 .0 })
+met-here c =
+    let f = c .before .before in
+    let r = R f in
+    met-some (T r) (M r) (S r .args .id) _ (found-some (searchFor (T r) (M r) (S r .args .id)) (f .find .ensures) _ _ _ (c .found2 .given .1) .0)
+
+met-requires : tie.Need-met-requires
+met-requires c κs =
+    let d = c .before in
+    let f = d .before .before in
+    let i = ready-here (E f) .inside in
+    let g = met-here d in
+    let t = T (R f) in
+    let k = d .found2 .given .0 .0 in
+    let j = d .found2 .given .0 .1 .0 in
+    let u = live-used (t .capacity) (usedOf t k) (M (R f)) (S (R f) .args .id) k j (g .isLive) in
+    (each-inside (t .capacity) (t .count) k (usedOf t) (M (R f)) i (g .below), omega (arith, i .fits k (g .below)))
+
+returns-3 : tie.Need-returns-3
+returns-3 c =
+    let d = c .before .before in
+    let f = d .before .before in
+    let r = R f in
+    rw (c .met .ensures) (looked-some (T r) (M r) (S r .args .id) (accepted-here (E f)) _ _ _ (f .find .ensures) (d .found2 .given .1))
+
+pub lookup-in-spec : {M : Type 1} → statement M
+lookup-in-spec =
+    tie.close
+    (tie.spec
+    ready-requires
+    enum-known-check
+    returns
+    enum-told
+    find-requires
+    enum-known-found
+    enum-known-found-2
+    met-requires
+    returns-2
+    returns-3)

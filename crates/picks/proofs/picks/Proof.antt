@@ -1,0 +1,127 @@
+-- `picks::picks` meets its contract. The invariant: the write servers of the ids passed are stored.
+use Prim.Native.Nat.{_-_, _≤_}
+use mathlib.Core.Path.{_≡_, refl, sym, _∙_}
+use mathlib.Core.Bool.{true}
+use native.Mathlib.Omega.{arith}
+use lib.ListN.{length, length-set}
+use borrow.Author.Needs.{needs}
+use borrow.Author.Tests.{not-true, not-false}
+use Rattle.lists.specs.Below.{setBelow}
+use Rattle.lists.proofs.Below.{setBelow-more}
+use Rattle.picks.specs.Picks.{bounded}
+use Rattle.picks.proofs.Picking.{serverOf, bounded-copied, picked-copied, picked-small, none-picked, all-picked}
+use Rattle.picks.proofs.picks.Statement.{statement}
+use Rattle.picks.proofs.picks.Tie as tie
+
+abbrev Inv-loop : tie.InvT-loop
+Inv-loop weights ids servers₀ count array n i₀ servers i =
+    (i ≤ n) × (servers ≡ setBelow (serverOf weights ids) i servers₀) × (length servers ≡ length servers₀)
+
+abbrev μ-loop : tie.MeasureT-loop
+μ-loop weights ids servers₀ count array n i₀ servers i = n - i
+
+-- the start, the branch where the weights are bounded, and the loop's head
+abbrev S : tie.Else1 Inv-loop μ-loop → tie.Start Inv-loop μ-loop
+S c = c .before .before .before .before .before
+
+abbrev B : tie.At-loop Inv-loop μ-loop → tie.Else1 Inv-loop μ-loop
+B l = l .before .before .before
+
+abbrev L : tie.After-write-server Inv-loop μ-loop → tie.At-loop Inv-loop μ-loop
+L c = c .before .before .before .before
+
+are-bounded : (c : tie.Else1 Inv-loop μ-loop) → bounded (S c .args .weights .now) ≡ true
+are-bounded c = sym (c .before .are-bounded .ensures) ∙ not-false _ (c .if1 .left)
+
+are-bounded-requires : tie.Need-are-bounded-requires Inv-loop μ-loop
+are-bounded-requires c κs = search needs
+
+returns : tie.Need-returns Inv-loop μ-loop
+returns c =
+    let a = c .before .before .before .before .before .args in
+    none-picked (a .weights .now) (a .ids .now) (a .servers .now) (sym (c .before .are-bounded .ensures) ∙ not-true _ (c .if1 .taken))
+
+array-at-requires : tie.Need-array-at-requires Inv-loop μ-loop
+array-at-requires c κs =
+    let few = bounded-copied (S c .args .weights .now) (are-bounded c) .few in
+    search needs
+
+lesser-requires : tie.Need-lesser-requires Inv-loop μ-loop
+lesser-requires c κs = search needs
+
+loop-holds : tie.Need-loop-holds Inv-loop μ-loop
+unfolding setBelow
+loop-holds c = (search needs, refl, refl)
+
+mul-write-server : tie.Need-mul-write-server Inv-loop μ-loop
+mul-write-server c = search needs
+
+shared-slice-read-write-server : tie.Need-shared-slice-read-write-server Inv-loop μ-loop
+shared-slice-read-write-server c = search needs
+
+write-server-requires : tie.Need-write-server-requires Inv-loop μ-loop
+write-server-requires c κs =
+    let l = c .before .before .before in
+    rw (l .before .before .array-at .ensures) (bounded-copied (S (B l) .args .weights .now) (are-bounded (B l)))
+
+-- the write server of the id that the loop stands at
+picked : (c : tie.After-write-server Inv-loop μ-loop) → c .write-server .result ≡ serverOf (S (B (L c)) .args .weights .now) (S (B (L c)) .args .ids .now) (L c .loop .i)
+picked c =
+    let a = S (B (L c)) .args in
+    picked-copied (a .weights .now) (a .ids .now) _ (L c .loop .i) _ (L c .before .before .array-at .ensures) (c .write-server .ensures)
+
+cast-servers : tie.Need-cast-servers Inv-loop μ-loop
+cast-servers c =
+    let a = S (B (L c)) .args in
+    omega (arith, picked-small (a .weights .now) (a .ids .now) (L c .loop .i) _ (are-bounded (B (L c))) (picked c))
+
+mul-servers : tie.Need-mul-servers Inv-loop μ-loop
+mul-servers c = search needs
+
+slice-write-servers : tie.Need-slice-write-servers Inv-loop μ-loop
+slice-write-servers c = search needs
+
+add-i : tie.Need-add-i Inv-loop μ-loop
+add-i c = search needs
+
+loop-less : tie.Need-loop-less Inv-loop μ-loop
+loop-less c = search needs
+
+loop-again : tie.Need-loop-again Inv-loop μ-loop
+loop-again c =
+    let l = L c in
+    let a = S (B l) .args in
+    (search needs, setBelow-more (serverOf (a .weights .now) (a .ids .now)) (l .loop .i) _ _ _ (l .loop .inv .1) (picked c), simp length-set (l .loop .inv .2))
+
+same-length : tie.Need-same-length Inv-loop μ-loop
+same-length c = search needs
+
+returns-2 : tie.Need-returns-2 Inv-loop μ-loop
+returns-2 c =
+    let l = c .before in
+    let a = S (B l) .args in
+    let e : l .loop .i ≡ l .before .lesser .result = omega arith in
+    all-picked (a .weights .now) (a .ids .now) (a .servers .now) _ _ (are-bounded (B l)) (l .before .lesser .ensures) (rw e at (l .loop .inv .1))
+
+pub picks-spec : {M : Type 1} → statement M
+picks-spec =
+    tie.close
+    (tie.spec
+    Inv-loop
+    μ-loop
+    are-bounded-requires
+    returns
+    array-at-requires
+    lesser-requires
+    loop-holds
+    mul-write-server
+    shared-slice-read-write-server
+    write-server-requires
+    cast-servers
+    mul-servers
+    slice-write-servers
+    add-i
+    loop-less
+    loop-again
+    same-length
+    returns-2)

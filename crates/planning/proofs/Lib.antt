@@ -1,0 +1,2 @@
+mod EntryRows
+pub mod Passed

@@ -1,0 +1,2 @@
+pub mod WriteRows
+pub mod Plan

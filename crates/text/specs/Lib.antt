@@ -1,3 +1,0 @@
-pub mod Letter
-pub mod Line
-pub mod Print
