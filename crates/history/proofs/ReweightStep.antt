@@ -12,7 +12,7 @@ use Rattle.placement.specs.declared.Fraction.{Fraction}
 use Rattle.placement.specs.Draw.{modulus, drawOf}
 use Rattle.placement.specs.Fraction.{raise}
 use Rattle.placement.specs.Rule.{writeP, takes, readable}
-use Rattle.placement.proofs.Fractions.{exceeds-grows, raise-old}
+use Rattle.placement.proofs.Fractions.{exceeds-grows, raise-is}
 use Rattle.placement.proofs.Rules.{writeP-cong}
 use Rattle.table.specs.declared.Table.{Table}
 use Rattle.table.specs.Parts.{weightOf, readP}
@@ -67,7 +67,7 @@ module _ {t : Table} {m : List ℕ} {L : Ledger} (A : Agree t m L) (server weigh
         let positive = sound-facts u new-sound .server k (omega (arith, changed .count)) .positive in
         exceeds-grows modulus (L .greatest k) (raise (L .greatest k) (writeP weights k)) (drawOf id k)
         (omega (arith, positive, ap (λ (f : Fraction). f .den) (new-read k l)))
-        (raise-old (L .greatest k) (writeP weights k)) e
+        (raise-is (L .greatest k) (writeP weights k) .least .0) e
 
     holds : Holds (t .capacity) (t .count) (λ k. raise (L .greatest k) (writeP weights k)) (L .events) m
     holds =

@@ -1,6 +1,8 @@
 -- Comparing fractions in whole numbers. A fraction is a pair, never reduced.
 use Prim.Native.Nat.{ℕ, _*_}
-use mathlib.Core.Bool.{Bool, cond}
+use mathlib.Core.Bool.{Bool, true, cond}
+use mathlib.Core.Path.{_≡_}
+use mathlib.Core.Logic.{_⊎_}
 use lib.Dec.{leb, ltb}
 use Rattle.placement.specs.declared.Fraction.{Fraction}
 
@@ -15,3 +17,9 @@ atLeast p q = leb (q .num * p .den) (p .num * q .den)
 -- q where it is strictly greater than p, and p otherwise
 unfoldable pub raise : Fraction → Fraction → Fraction
 raise p q = cond (atLeast p q) p q
+
+-- the same in words, since archive and ledger share it: r is the greater of p and q, and where they are equal it is the pair p
+pub record Raised (p q r : Fraction) : Type 0 where
+  pub oneOf : (r ≡ p) ⊎ (r ≡ q)
+  pub least : (atLeast r p ≡ true) × (atLeast r q ≡ true)
+  pub kept : atLeast p q ≡ true → r ≡ p

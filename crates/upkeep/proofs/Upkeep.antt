@@ -10,7 +10,7 @@ use lib.Seq.{getD-set-same, getD-set-other}
 use Rattle.lists.proofs.Below.{length-setBelow, setBelow-at}
 use Rattle.placement.specs.Fraction.{atLeast, raise}
 use Rattle.placement.specs.Rule.{writeP}
-use Rattle.placement.proofs.Fractions.{raise-old, fraction-eq}
+use Rattle.placement.proofs.Fractions.{raise-is, fraction-eq}
 use Rattle.table.specs.declared.Table.{Table}
 use Rattle.table.specs.Parts.{weightOf, usedOf, readP}
 use Rattle.table.proofs.Soundness.{Arrays}
@@ -116,4 +116,4 @@ withEntry-is t server a l s = record {
 -- no ReadP falls
 pub reads-never-fall : (t : Table) (server weight : ℕ) → Arrays t → t .count ≤ 256 → server < t .count → (k : ℕ) → k < t .count
     → atLeast (readP (withWeight t server weight) k) (readP t k) ≡ true
-reads-never-fall t server weight a l s k h = rw (withWeight-is t server weight a l s .raised k h) (raise-old (readP t k) _)
+reads-never-fall t server weight a l s k h = rw (withWeight-is t server weight a l s .raised k h) (raise-is (readP t k) _ .least .0)
