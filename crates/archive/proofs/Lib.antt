@@ -1,3 +1,5 @@
 pub mod BelowCount
 pub mod Small
 pub mod Once
+pub mod Lowest
+pub mod Tags

@@ -3,4 +3,5 @@ pub mod Machine
 pub mod Ledger
 pub mod Demand3
 pub mod LiveRule
+pub mod Numbers
 pub mod Example

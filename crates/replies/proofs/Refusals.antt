@@ -1,15 +1,15 @@
 -- Laws of rows of refusals: what a call with these rows gives, and what holds where it is accepted.
 -- Assumes nothing.
-use Prim.Native.Nat.{ℕ, suc}
+use Prim.Native.Nat.{ℕ, suc, _≤_, _<_}
 use mathlib.Core.Path.{_≡_, refl, sym, ap, _∙_}
-use mathlib.Core.Logic.{_≢_}
+use mathlib.Core.Logic.{_≢_, ⊎-elim}
 use mathlib.Core.Bool.{Bool, true, false, cond, _&&_}
-use mathlib.Core.List.{List, [], _∷_, _++_}
+use mathlib.Core.List.{List, [], _∷_, _++_, List·Memᴰ, List·Memᴰ·not-nil, List·Memᴰ·cases-cons}
 use native.Mathlib.Omega.{arith}
 use lib.Dec.{ltb, eqb}
 use borrow.Author.Tests.{ltb-true, eqb-true, eqb-false, eq-eqb, ne-eqb}
 use Rattle.lists.proofs.Tests.{byBool, and-l, and-r}
-use Rattle.replies.specs.Refusal.{Row, _when_, firstOf, settle}
+use Rattle.replies.specs.Refusal.{Row, _when_, firstOf, rising, settle}
 use Rattle.replies.specs.declared.Reply.{Reply}
 use Rattle.replies.specs.Reply.{refused, replyBy}
 
@@ -76,3 +76,23 @@ module _ (r s : List Row) (e : firstOf r ≡ firstOf s) where
   pub reply-same : (x y : Reply) → (firstOf r ≡ 0 → x ≡ y) → replyBy r x ≡ replyBy s y
   unfolding replyBy
   reply-same x y f = settle-both (_≡_ {A = Reply}) x y _ _ f (ap (λ (n : ℕ). refused n 0) e)
+
+-- where the numbers rise, the first row that applies has the lowest number that applies, and it is not 0
+first-above : (rows : List Row) (n : ℕ) → rising n rows ≡ true → (r : Row) → List·Memᴰ r rows → r .applies ≡ true → (n < firstOf rows) × (firstOf rows ≤ r .number)
+unfolding rising firstOf
+first-above [] n h r d a = absurd (List·Memᴰ·not-nil d)
+first-above (q ∷ rows) n h r d a =
+    let low = ltb-true n (q .number) (and-l (ltb n (q .number)) (rising (q .number) rows) h) in
+    let rest = and-r (ltb n (q .number)) (rising (q .number) rows) h in
+    ⊎-elim
+    (λ (e : r ≡ q).
+    let f : q .applies ≡ true = rw e at a in
+    let g : r .number ≡ q .number = ap (λ (x : Row). x .number) e in
+    rw f (omega arith, omega arith))
+    (λ (m : List·Memᴰ r rows).
+    let s = first-above rows (q .number) rest r m a in
+    byBool (q .applies) (λ f. rw f (omega arith, omega (arith, s))) (λ f. rw f (omega (arith, s), omega (arith, s))))
+    (List·Memᴰ·cases-cons d)
+
+pub first-lowest : (rows : List Row) → rising 0 rows ≡ true → (r : Row) → List·Memᴰ r rows → r .applies ≡ true → (0 < firstOf rows) × (firstOf rows ≤ r .number)
+first-lowest rows h r d a = first-above rows 0 h r d a

@@ -1,0 +1,142 @@
+-- Servers keep their number, from any table and medium; and what an add_server of a list answered is where its server stands.
+-- Assumes nothing.
+use Prim.Native.Nat.{ℕ, zero, suc, _≤_, _<_}
+use mathlib.Core.Path.{_≡_, refl, sym, ap, _∙_}
+use mathlib.Core.Logic.{_≢_}
+use mathlib.Core.Bool.{Bool, true, not, _&&_}
+use mathlib.Core.List.{List, [], _∷_, _++_}
+use native.Mathlib.Omega.{arith}
+use lib.Dec.{eqb}
+use lib.ListN.{set}
+use lib.Seq.{getD-set-other}
+use borrow.Author.Tests.{eqb-false, not-true}
+use Rattle.lists.specs.Below.{nth}
+use Rattle.lists.proofs.Tests.{and-l, and-r, at-or-else}
+use Rattle.table.specs.declared.Table.{Table}
+use Rattle.table.specs.Parts.{weightOf, usedOf}
+use Rattle.upkeep.specs.Upkeep.{withServer, withWeight, oneMore, withEntry}
+use Rattle.upkeep.proofs.Upkeep.{withServer-is}
+use Rattle.replies.specs.Refusal.{firstOf}
+use Rattle.replies.specs.declared.Reply.{Reply}
+use Rattle.replies.proofs.Refusals.{settle-yes, settle-either}
+use Rattle.replies.proofs.Answers.{reply-done, reply-number}
+use Rattle.planning.specs.WriteRows.{target, writeRows}
+use Rattle.writing.specs.Writing.{writeTable}
+use Rattle.servers.specs.Servers.{startRows, addServerRows, addServerReply, addServerTable, reweightRows, reweightTable}
+use Rattle.servers.proofs.Accepted.{addServer-accepted}
+use Rattle.history.specs.Call.{Call, addServer, reweight, write, delete, lookup, batch}
+use Rattle.history.specs.Machine.{State, reply, next, after, begin}
+use Rattle.history.specs.Ledger.{opening}
+use Rattle.history.specs.Numbers.{weightLeft, SameServer, Added}
+use Rattle.history.proofs.Run.{begin-agrees, run}
+
+-- a number of a list that is set to no less does not fall
+set-more : (xs : List ℕ) (i x : ℕ) → nth xs i ≤ x → (k : ℕ) → nth xs k ≤ nth (set xs i x) k
+set-more [] i x h k = omega arith
+set-more (y ∷ xs) zero x h zero = h
+set-more (y ∷ xs) zero x h (suc k) = omega arith
+set-more (y ∷ xs) (suc i) x h zero = omega arith
+set-more (y ∷ xs) (suc i) x h (suc k) = set-more xs i x h k
+
+-- the tables that a call makes of a table
+module _ (t : Table) (k : ℕ) (l : k < t .count) where
+  -- table u has server k of t, with the weight of t if it is `left`
+  record Has (left : Type 0) (u : Table) : Type 0 where
+    there : k < u .count
+    capacity : u .capacity ≡ t .capacity
+    used : usedOf t k ≤ usedOf u k
+    weight : left → weightOf u k ≡ weightOf t k
+
+  itself : (left : Type 0) → Has left t
+  itself left = record { there = l; capacity = refl; used = omega arith; weight = λ _. refl }
+
+  server-added : (weight : ℕ) → Has (Unit {0}) (withServer t weight)
+  unfolding withServer
+  server-added weight = record {
+    there = omega arith;
+    capacity = refl;
+    used = omega (arith, getD-set-other (t .used) (t .count) k 0 0 (λ e. omega arith));
+    weight = λ _. getD-set-other (t .weights) (t .count) k weight 0 (λ e. omega arith);
+  }
+
+  weight-changed : (server weight : ℕ) → Has (k ≢ server) (withWeight t server weight)
+  unfolding withWeight
+  weight-changed server weight = record {
+    there = l;
+    capacity = refl;
+    used = omega arith;
+    weight = λ d. getD-set-other (t .weights) server k weight 0 d;
+  }
+
+  entry-added : (server : ℕ) → Has (Unit {0}) (withEntry t server)
+  unfolding withEntry oneMore
+  entry-added server = record {
+    there = l;
+    capacity = refl;
+    used = set-more (t .used) server _ (omega arith) k;
+    weight = λ _. refl;
+  }
+
+-- one call, by the table that it leaves
+kept-by : (S : State) (c : Call) (k : ℕ) (l : k < S .table .count) (left : Type 0) → (weightLeft k (c ∷ []) ≡ true → left) → Has (S .table) k l left (next S c .table)
+    → SameServer S (next S c) (c ∷ []) k
+kept-by S c k l left f h = record { there = h .there; capacity = h .capacity; used = h .used; weight = λ e. h .weight (f e) }
+
+next-same : (S : State) (c : Call) (k : ℕ) → k < S .table .count → SameServer S (next S c) (c ∷ []) k
+unfolding next weightLeft addServerTable reweightTable writeTable
+next-same S (addServer weight) k l = kept-by S (addServer weight) k l (Unit {0}) (λ _. tt)
+    (settle-either (addServerRows (S .table) (S .medium) weight) _ (S .table) (Has (S .table) k l (Unit {0}))
+    (λ _. server-added (S .table) k l weight) (itself (S .table) k l (Unit {0})))
+next-same S (reweight server weight) k l = kept-by S (reweight server weight) k l (k ≢ server)
+    (λ e d. eqb-false server k (not-true _ (and-l (not (eqb server k)) true e)) (sym d))
+    (settle-either (reweightRows (S .table) server weight) _ (S .table) (Has (S .table) k l (k ≢ server))
+    (λ _. weight-changed (S .table) k l server weight) (itself (S .table) k l (k ≢ server)))
+next-same S (write id value) k l = kept-by S (write id value) k l (Unit {0}) (λ _. tt)
+    (settle-either (writeRows (S .table) (S .medium) id value) _ (S .table) (Has (S .table) k l (Unit {0}))
+    (λ _. entry-added (S .table) k l (target (S .table) id)) (itself (S .table) k l (Unit {0})))
+next-same S (delete id) k l = kept-by S (delete id) k l (Unit {0}) (λ _. tt) (itself (S .table) k l (Unit {0}))
+next-same S (lookup id) k l = kept-by S (lookup id) k l (Unit {0}) (λ _. tt) (itself (S .table) k l (Unit {0}))
+next-same S (batch ids) k l = kept-by S (batch ids) k l (Unit {0}) (λ _. tt) (itself (S .table) k l (Unit {0}))
+
+left-both : (k : ℕ) (c : Call) (calls : List Call) → weightLeft k (c ∷ calls) ≡ true → (weightLeft k (c ∷ []) ≡ true) × (weightLeft k calls ≡ true)
+unfolding weightLeft
+left-both k (addServer weight) calls e = (refl, e)
+left-both k (reweight server weight) calls e = (rw (and-l (not (eqb server k)) (weightLeft k calls) e), and-r (not (eqb server k)) (weightLeft k calls) e)
+left-both k (write id value) calls e = (refl, e)
+left-both k (delete id) calls e = (refl, e)
+left-both k (lookup id) calls e = (refl, e)
+left-both k (batch ids) calls e = (refl, e)
+
+-- a list of calls, whatever the table and the medium hold
+pub servers-keep-their-number : (calls : List Call) (S : State) (k : ℕ) → k < S .table .count → SameServer S (after S calls) calls k
+unfolding after
+servers-keep-their-number [] S k l = record { there = l; capacity = refl; used = omega arith; weight = λ _. refl }
+servers-keep-their-number (c ∷ calls) S k l =
+    let a = next-same S c k l in
+    let b = servers-keep-their-number calls (next S c) k (a .there) in
+    record {
+      there = b .there;
+      capacity = b .capacity ∙ a .capacity;
+      used = omega (arith, a .used, b .used);
+      weight = λ e. let h = left-both k c calls e in b .weight (h .1) ∙ a .weight (h .0);
+    }
+
+-- and the server of an accepted add_server of a list
+pub server-numbered : (capacity n : ℕ) → firstOf (startRows capacity) ≡ 0 → (before : List Call) (weight : ℕ)
+    → let S = after (begin capacity n) before in
+    reply S (addServer weight) .refusal ≡ 0 → Added S weight
+unfolding reply next addServerReply addServerTable
+server-numbered capacity n z before weight e =
+    let S = after (begin capacity n) before in
+    let t = S .table in
+    let rows = addServerRows t (S .medium) weight in
+    let A = run before (begin capacity n) (opening capacity n) (begin-agrees capacity n z) .agrees in
+    let y : firstOf rows ≡ 0 = sym (reply-number rows _ refl) ∙ e in
+    let w = withServer-is t weight (A .arrays) (addServer-accepted t (S .medium) weight y .few) in
+    let table : addServerTable t (S .medium) weight ≡ withServer t weight = settle-yes rows _ t y in
+    let number : addServerReply t (S .medium) weight .server ≡ t .count = ap (λ (r : Reply). r .server) (reply-done rows y _) in
+    record {
+      number = number;
+      there = omega (arith, w .count, number, ap (λ (u : Table). u .count) table);
+      hasWeight = ap (λ (u : Table). weightOf u (addServerReply t (S .medium) weight .server)) table ∙ ap (weightOf (withServer t weight)) number ∙ w .weightNew;
+    }
