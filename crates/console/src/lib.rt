@@ -9,8 +9,8 @@ const INPUT: usize = sheet::MAX_INPUT + 1;
 
 const WORDS: usize = 3072;
 
-// As much as a line prints at most, for each byte of the input.
-const OUTPUT: usize = text::LONGEST_LINE * INPUT;
+// As much as a line prints at most, for each byte of the longest sheet.
+const OUTPUT: usize = text::LONGEST_LINE * sheet::MAX_INPUT;
 
 fn input_space() -> [u8; INPUT]
     ensures { λ r. ⌜ 65537 ≡ length r ⌝ }
@@ -25,7 +25,7 @@ fn words() -> [u32; WORDS]
 }
 
 fn output_space() -> [u8; OUTPUT]
-    ensures { λ r. ⌜ 2293795 ≡ length r ⌝ }
+    ensures { λ r. ⌜ 2293760 ≡ length r ⌝ }
 {
     [0; OUTPUT]
 }

@@ -1,10 +1,10 @@
--- `console::run` meets its contract: a sheet's output has room in 35 bytes for each byte of its input.
+-- `console::run` meets its contract: the longest input needs most room, and that much is lent.
 use Prim.Native.Nat.{_≤_}
 use lib.ListN.{length}
 use lib.Seq.{length-take-le}
 use mathlib.Core.Path.{sym}
 use borrow.Author.Needs.{needs}
-use Rattle.sheet.proofs.Sheets.{output-fits}
+use Rattle.sheet.proofs.Sheets.{room-enough, output-fits}
 use Rattle.console.proofs.run.Statement.{statement}
 use Rattle.console.proofs.run.Tie as tie
 
@@ -36,7 +36,7 @@ slice-aggregate-run-3 : tie.Need-slice-aggregate-run-3
 slice-aggregate-run-3 c = search needs
 
 run-requires : tie.Need-run-requires
-run-requires c κs = search needs
+run-requires c κs = rw (← c .before .before .before .before .before .before .output-space .ensures) (room-enough _)
 
 room : (c : tie.After-run) → c .run .result ≤ length (c .run .last .1 .1 .0)
 room c = rw (c .run .kept .1 .1 .0) (output-fits _ _ _ _ (c .run .ensures .0) (run-requires (c .before) (c .run .lifetimes)))
