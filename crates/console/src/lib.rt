@@ -1,5 +1,5 @@
-// A sheet from standard input to standard output, over 3,072 blank words. Where reading fails, nothing is run and one question mark
-// is printed: a line that was cut short is never run.
+// This crate runs the sheet on standard input over 3,072 blank words and writes its output to standard output. Where reading fails,
+// nothing is run and one question mark is printed, since the bytes read may end in the middle of a line.
 ghost use mathlib.Core.Path.{_≡_};
 ghost use Prim.Native.Nat.{_*_, _≤_};
 ghost use lib.ListN.{length};
@@ -10,12 +10,12 @@ ghost use Rattle.sheet.specs.Sheet.{maxInput};
 ghost use Rattle.console.specs.Console.{answerTo};
 use streams::Read;
 
-// One byte more than a sheet may have.
+// A sheet has at most one byte less.
 const INPUT: usize = sheet::MAX_INPUT + 1;
 
 const WORDS: usize = 3072;
 
-// As much as a line prints at most, for each byte of the longest sheet.
+// Each byte of the longest sheet may print the longest line.
 const OUTPUT: usize = text::LONGEST_LINE * sheet::MAX_INPUT;
 
 fn input_space() -> [u8; INPUT]
@@ -36,7 +36,7 @@ fn output_space() -> [u8; OUTPUT]
     [0; OUTPUT]
 }
 
-// Puts what is printed at the start of the buffer and answers its number of bytes.
+// Puts what is to be printed at the start of the buffer and answers its number of bytes.
 fn answer(read: Read, input: &[u8], medium: &mut [u32], out: &mut [u8]) -> usize
     requires { ⌜ AtMost (length (now input)) read ⌝ }
     requires { ⌜ longestLine * maxInput ≤ length (now out) ⌝ }

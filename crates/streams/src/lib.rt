@@ -1,4 +1,5 @@
-// Standard input read whole, standard output written whole. A signal is no error, and neither is a short read or a short write.
+// This crate reads standard input whole and writes standard output whole. A signal is no error, and neither is a short read or a
+// short write.
 ghost use Prim.Native.Nat.{_≤_, _-_};
 ghost use mathlib.Core.Path.{_≡_};
 ghost use lib.ListN.{length, take};
@@ -10,13 +11,13 @@ use libc::STDOUT_FILENO;
 // A read or a write that signals break off so many times in a row has failed.
 const TRIES: usize = 65536;
 
-// What a read gave: so many bytes at the start of the buffer, or a failure.
+// A read gave so many bytes at the start of the buffer, or it failed.
 pub enum Read {
     Bytes(usize),
     Failed,
 }
 
-// One read, made again where a signal broke it off. No bytes are the end of the input.
+// Makes one read, and makes it again where a signal broke it off. No bytes are the end of the input.
 fn read_once(buf: &mut [u8]) -> Read
     ensures { λ r. ⌜ AtMost (length (now (buf .entry))) r ⌝ }
 {
@@ -32,7 +33,7 @@ fn read_once(buf: &mut [u8]) -> Read
     Read::Failed
 }
 
-// One read into the buffer from a position on; the bytes before it stay as they are.
+// Makes one read into the buffer from a position on; the bytes before it stay as they are.
 fn read_from(buf: &mut [u8], from: usize) -> Read
     requires { ⌜ from ≤ length (now buf) ⌝ }
     ensures bytes { λ r. ⌜ AtMost (length (now (buf .entry)) - from) r ⌝ }
@@ -64,7 +65,7 @@ pub fn read_all(buf: &mut [u8]) -> Read
     Read::Bytes(done)
 }
 
-// One write, made again where a signal broke it off. It answers how many bytes it took, 0 where it failed.
+// Makes one write, and makes it again where a signal broke it off. It answers how many bytes went out, 0 where it failed.
 fn write_once(buf: &[u8]) -> usize
     ensures { λ r. ⌜ r ≤ length (now (buf .entry)) ⌝ }
 {
