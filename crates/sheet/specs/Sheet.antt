@@ -1,5 +1,5 @@
 -- A whole sheet: input bytes to output bytes over a lent medium.
-use Prim.Native.Nat.{ℕ}
+use Prim.Native.Nat.{ℕ, _*_}
 use mathlib.Core.Bool.{cond}
 use mathlib.Core.List.{List, [], _∷_, _++_}
 use mathlib.Core.Option.{Option, none, some}
@@ -15,7 +15,7 @@ use Rattle.parsing.specs.declared.Line.{Line}
 use Rattle.parsing.specs.declared.Line.the-variants as line
 use Rattle.letters.specs.Letter.{startLetter}
 use Rattle.parsing.specs.Line.{lineOf}
-use Rattle.printing.specs.Print.{printed, question, answered}
+use Rattle.printing.specs.Print.{longestLine, printed, question, answered}
 use Rattle.sheet.specs.declared.InUse.{InUse}
 
 -- the lines of an input: each LF ends one, and bytes after the last LF are a line too
@@ -79,3 +79,7 @@ unfoldable pub outputOf : List ℕ → List ℕ → Done
 outputOf input m =
     let s : Sheet = record { table = none; medium = m } in
     cond (ltb maxInput (length input)) (record { bytes = question; sheet = s }) (run s (linesOf input))
+
+-- bytes of output that an input of n bytes needs at most
+unfoldable pub roomFor : ℕ → ℕ
+roomFor n = cond (ltb maxInput n) (length question) (longestLine * n)

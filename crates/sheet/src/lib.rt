@@ -2,11 +2,10 @@
 mod lines;
 
 ghost use mathlib.Core.Path.{_≡_};
-ghost use Prim.Native.Nat.{_*_, _≤_};
+ghost use Prim.Native.Nat.{_≤_};
 ghost use lib.ListN.{length};
 ghost use lib.Seq.{sets};
-ghost use Rattle.printing.specs.Print.{longestLine};
-ghost use Rattle.sheet.specs.Sheet.{outputOf};
+ghost use Rattle.sheet.specs.Sheet.{outputOf, roomFor};
 use table::Table;
 
 // Bytes of the longest input.
@@ -24,9 +23,10 @@ struct Ran {
     pub in_use: InUse,
 }
 
-// Puts a sheet's output at the start of the buffer and answers its number of bytes. A byte of input prints at most 35.
+// Puts a sheet's output at the start of the buffer and answers its number of bytes. A byte of input prints at most 35; an input
+// that is too long prints two bytes in all.
 pub fn run(input: &[u8], medium: &mut [u32], out: &mut [u8]) -> usize
-    requires { ⌜ longestLine * length (now input) ≤ length (now out) ⌝ }
+    requires { ⌜ roomFor (length (now input)) ≤ length (now out) ⌝ }
     ensures number { λ r. ⌜ r ≡ length (outputOf (now (input .entry)) (now (medium .entry)) .bytes) ⌝ }
     ensures bytes { λ _. ⌜ now (out .exit) ≡ sets (now (out .entry)) 0 (outputOf (now (input .entry)) (now (medium .entry)) .bytes) ⌝ }
     ensures words { λ _. ⌜ now (medium .exit) ≡ outputOf (now (input .entry)) (now (medium .entry)) .sheet .medium ⌝ }

@@ -1,10 +1,11 @@
--- `console::run` meets its contract: a sheet's output has room in 35 bytes for each byte of its input.
+-- `console::run` meets its contract: what is printed lies in the buffer that is lent.
 use Prim.Native.Nat.{_≤_}
+use mathlib.Core.Path.{sym}
+use native.Mathlib.Omega.{arith}
 use lib.ListN.{length}
 use lib.Seq.{length-take-le}
-use mathlib.Core.Path.{sym}
 use borrow.Author.Needs.{needs}
-use Rattle.sheet.proofs.Sheets.{output-fits}
+use Rattle.console.proofs.Answering.{answer-inside}
 use Rattle.console.proofs.run.Statement.{statement}
 use Rattle.console.proofs.run.Tie as tie
 
@@ -17,29 +18,28 @@ words-requires c κs = search needs
 output-space-requires : tie.Need-output-space-requires
 output-space-requires c κs = search needs
 
-slice-aggregate-read-full : tie.Need-slice-aggregate-read-full
-slice-aggregate-read-full c = search needs
+slice-aggregate-read-all : tie.Need-slice-aggregate-read-all
+slice-aggregate-read-all c = search needs
 
-read-full-requires : tie.Need-read-full-requires
-read-full-requires c κs = search needs
+read-all-requires : tie.Need-read-all-requires
+read-all-requires c κs = search needs
 
-array-share-prefix-input : tie.Need-array-share-prefix-input
-array-share-prefix-input c = search needs
+slice-aggregate-answer : tie.Need-slice-aggregate-answer
+slice-aggregate-answer c = search needs
 
-slice-aggregate-run : tie.Need-slice-aggregate-run
-slice-aggregate-run c = search needs
+slice-aggregate-answer-2 : tie.Need-slice-aggregate-answer-2
+slice-aggregate-answer-2 c = search needs
 
-slice-aggregate-run-2 : tie.Need-slice-aggregate-run-2
-slice-aggregate-run-2 c = search needs
+slice-aggregate-answer-3 : tie.Need-slice-aggregate-answer-3
+slice-aggregate-answer-3 c = search needs
 
-slice-aggregate-run-3 : tie.Need-slice-aggregate-run-3
-slice-aggregate-run-3 c = search needs
+answer-requires : tie.Need-answer-requires
+answer-requires c κs =
+    let r = c .before .before .before .before in
+    (rw (r .read-all .kept .0) (r .read-all .ensures), omega (arith, r .before .before .output-space .ensures))
 
-run-requires : tie.Need-run-requires
-run-requires c κs = search needs
-
-room : (c : tie.After-run) → c .run .result ≤ length (c .run .last .1 .1 .0)
-room c = rw (c .run .kept .1 .1 .0) (output-fits _ _ _ _ (c .run .ensures .0) (run-requires (c .before) (c .run .lifetimes)))
+room : (c : tie.After-answer) → c .answer .result ≤ length (c .answer .last .1 .1 .1 .0)
+room c = answer-inside _ (rw (c .answer .kept .1 .1 .1 .0) (answer-requires (c .before) (c .answer .lifetimes) .1)) _ _ _ _ (c .answer .ensures .0)
 
 array-share-prefix-output : tie.Need-array-share-prefix-output
 array-share-prefix-output c = room (c .before .before)
@@ -60,13 +60,12 @@ run-spec =
     input-space-requires
     words-requires
     output-space-requires
-    slice-aggregate-read-full
-    read-full-requires
-    array-share-prefix-input
-    slice-aggregate-run
-    slice-aggregate-run-2
-    slice-aggregate-run-3
-    run-requires
+    slice-aggregate-read-all
+    read-all-requires
+    slice-aggregate-answer
+    slice-aggregate-answer-2
+    slice-aggregate-answer-3
+    answer-requires
     array-share-prefix-output
     slice-aggregate-write-all
     write-all-requires

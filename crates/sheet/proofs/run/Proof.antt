@@ -4,7 +4,7 @@ use mathlib.Core.Path.{_≡_, refl, _∙_}
 use native.Mathlib.Omega.{arith}
 use lib.ListN.{length}
 use borrow.Author.Needs.{needs}
-use Rattle.sheet.proofs.Sheets.{still-room, end-bounds, Left, all-left, one-done, none-left, too-long}
+use Rattle.sheet.proofs.Sheets.{still-room, end-bounds, Left, all-left, one-done, none-left, too-long, room-question, room-lines}
 use Rattle.sheet.proofs.run.Statement.{statement}
 use Rattle.sheet.proofs.run.Tie as tie
 
@@ -29,7 +29,7 @@ ends : (c : tie.After-line-end Inv-loop μ-loop) → (H c .loop .from ≤ c .lin
 ends c = end-bounds (S (H c) .args .input .now) (H c .loop .from) (c .before .loop-test .taken) _ (c .line-end .ensures)
 
 put-question-requires : tie.Need-put-question-requires Inv-loop μ-loop
-put-question-requires c κs = search needs
+put-question-requires c κs = let h = c .before in room-question _ _ (h .before .before .before .before .pre) (omega (arith, h .if1 .taken))
 
 same-length : tie.Need-same-length Inv-loop μ-loop
 same-length c = search needs
@@ -62,7 +62,7 @@ part-run-line-end c = let e = ends (c .before) in search (needs, e .1)
 run-line-requires : tie.Need-run-line-requires Inv-loop μ-loop
 run-line-requires c κs =
     let l = H (c .before .before .before) in
-    let p : 35 * length (S l .args .input .now) ≤ length (S l .args .out .now) = S l .pre in
+    let p : 35 * length (S l .args .input .now) ≤ length (S l .args .out .now) = room-lines _ _ (S l .pre) (l .before .before .if1 .left) in
     omega (arith, p, l .loop .inv .1, l .loop .inv .3, c .before .before .before .before .loop-test .taken)
 
 add-from : tie.Need-add-from Inv-loop μ-loop
