@@ -1,13 +1,16 @@
 -- The third demand, proved.
 -- Assumes nothing.
-use Prim.Native.Nat.{ℕ, _<_}
+use Prim.Native.Nat.{ℕ, _+_, _<_}
 use mathlib.Core.Path.{_≡_, refl, sym, ap, _∙_}
 use mathlib.Core.Logic.{_↔_}
 use mathlib.Core.List.{List, _∷_, _++_}
 use mathlib.Core.Option.{Option, none, some}
 use native.Mathlib.Omega.{arith}
+use lib.ListN.{length}
 use Rattle.limits.specs.Limits.{contentRange}
 use Rattle.lists.specs.Below.{nth}
+use Rattle.medium.specs.Entry.{entryWords, entryAt}
+use Rattle.medium.proofs.Places.{entry-apart}
 use Rattle.replies.specs.Refusal.{firstOf}
 use Rattle.replies.specs.declared.Reply.{Reply}
 use Rattle.lookup.specs.Lookup.{lookupReply}
@@ -42,6 +45,18 @@ module _ (S : State) (L : Ledger) (A : Agrees S L) where
         idStands = rw (← (A .capacity)) (w .idThere);
         valueStands = rw (← (A .capacity)) (w .valueThere);
       }
+
+  -- the words of two entries that are inside differ, and no two writes have the same entry of a server
+  own : (newer older newer′ older′ : List Event) (id value server id′ value′ server′ : ℕ)
+      → L .events ≡ newer ++ (wrote id value server ∷ older) → L .events ≡ newer′ ++ (wrote id′ value′ server′ ∷ older′)
+      → (a b : ℕ) → a < entryWords → b < entryWords
+      → entryAt (L .capacity) server (usedBy older server) + a ≡ entryAt (L .capacity) server′ (usedBy older′ server′) + b
+      → length older ≡ length older′
+  own newer older newer′ older′ id value server id′ value′ server′ e e′ a b l l′ h =
+      let inside = stands newer older id value server e .inside in
+      let inside′ = stands newer′ older′ id′ value′ server′ e′ .inside in
+      let same = entry-apart (L .capacity) server (usedBy older server) a server′ (usedBy older′ server′) b inside inside′ l l′ h in
+      own-entry newer newer′ older older′ id value id′ value′ server (sym e ∙ rw (← (same .0)) at e′) (same .1 ∙ ap (usedBy older′) (sym (same .0)))
 
   finds : (id : ℕ) (x : Standing) → standing (L .events) id ≡ some x → (reply id .refusal ≡ 0) × (reply id .value ≡ x .value)
   unfolding compared standingReply
@@ -90,7 +105,7 @@ demand3 capacity n z calls =
           ∙ ap (λ (T : State). nth (T .medium) a) (after-append before later (begin capacity n))
           ∙ after-once later (stateThen capacity n before) a f;
       stands = stands S L A;
-      own = λ newer older newer′ older′ id value id′ value′ server p q u. own-entry newer newer′ older older′ id value id′ value′ server (sym p ∙ q) u;
+      own = own S L A;
       live = live-writes S L A;
       never = λ before later c e. never (stateThen capacity n before) (ledgerThen capacity n before) (run before (begin capacity n) (opening capacity n) (begin-agrees capacity n z) .agrees) c;
     }
