@@ -19,7 +19,7 @@ use Rattle.history.specs.Call.{Call, Compared, compared}
 use Rattle.history.specs.Machine.{State, begin}
 use Rattle.history.specs.Ledger.{Event, wrote, Ledger, Standing, opening, usedBy, standing, standingReply}
 use Rattle.history.specs.Demand3.{Stands, Demand3, stateThen, ledgerThen}
-use Rattle.history.proofs.Events.{standingAfter, used-write, own-entry, last-stands, stands-came}
+use Rattle.history.proofs.Events.{used-write, own-entry, last-stands, stands-came}
 use Rattle.history.proofs.Holds.{write-there}
 use Rattle.history.proofs.LookupStep.{stands-written, looked}
 use Rattle.history.proofs.Batches.{same-batch}
@@ -61,7 +61,7 @@ module _ (S : State) (L : Ledger) (A : Agrees S L) where
   finds : (id : ℕ) (x : Standing) → standing (L .events) id ≡ some x → (reply id .refusal ≡ 0) × (reply id .value ≡ x .value)
   unfolding compared standingReply
   finds id x e =
-      let w = stands-came (L .events) id x e .last in
+      let w = stands-came (L .events) id x e in
       let s = stands (w .newer) (w .older) id (x .value) (x .server) (w .split) in
       let r = looked A id (stands-written A id x e .idSmall) (omega (arith, A .count, s .there)) ∙ ap (standingReply L id) e in
       (ap (λ (c : Compared). c .refusal) r, ap (λ (c : Compared). c .value) r)
@@ -95,10 +95,10 @@ demand3 capacity n z calls =
     record {
       alike = r .alike;
       batches = λ before later ids e. same-batch (run before (begin capacity n) (opening capacity n) (begin-agrees capacity n z) .agrees) ids;
-      finds = λ id value server w. finds S L A id (standingAfter (w .older) value server) (last-stands (L .events) id value server w);
+      finds = λ id value server w. finds S L A id (record { value = value; server = server }) (last-stands (L .events) id value server w);
       absent = λ id s l. (
         λ e value server w. not-both (absent S L A id s l .0 e) (last-stands (L .events) id value server w),
-        λ f. absent S L A id s l .1 (nothing (standing (L .events) id) (λ x e. f (x .value) (x .server) (stands-came (L .events) id x e .last))),
+        λ f. absent S L A id s l .1 (nothing (standing (L .events) id) (λ x e. f (x .value) (x .server) (stands-came (L .events) id x e))),
       );
       unaltered = λ before later e a f.
           ap (λ (l : List Call). nth (stateThen capacity n l .medium) a) (sym e)
