@@ -18,3 +18,4 @@ mod Counting
 pub mod Unaltered
 pub mod Theorem
 pub mod LiveRule
+pub mod Example
