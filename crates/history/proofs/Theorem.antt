@@ -19,6 +19,7 @@ use Rattle.history.specs.Call.{Call, Compared, compared}
 use Rattle.history.specs.Machine.{State, begin}
 use Rattle.history.specs.Ledger.{Event, wrote, Ledger, Standing, opening, usedBy, standing, standingReply}
 use Rattle.history.specs.Demand3.{Stands, Demand3, stateThen, ledgerThen}
+use Rattle.history.proofs.Unaltered.{after-once, after-append}
 use Rattle.history.proofs.Events.{used-write, own-entry, last-stands, stands-came}
 use Rattle.history.proofs.Holds.{write-there}
 use Rattle.history.proofs.LookupStep.{stands-written, looked}
@@ -26,7 +27,6 @@ use Rattle.history.proofs.Batches.{same-batch}
 use Rattle.history.proofs.Run.{Agrees, begin-agrees, run}
 use Rattle.history.proofs.Never.{never}
 use Rattle.history.proofs.Counting.{live-writes}
-use Rattle.history.proofs.Unaltered.{after-once, after-append}
 
 -- of a state and a ledger that agree
 module _ (S : State) (L : Ledger) (A : Agrees S L) where
