@@ -30,7 +30,7 @@ use Rattle.replies.specs.Refusal.{firstOf}
 use Rattle.replies.proofs.Refusals.{passed, settle-yes, settle-no}
 use Rattle.servers.specs.Servers.{addServerRows, addServerReply, addServerTable}
 use Rattle.history.specs.Call.{addServer, compared}
-use Rattle.history.specs.Ledger.{Event, Ledger, told, usedBy, standing, put, addServerRowsL, withServerL, enter}
+use Rattle.history.specs.Ledger.{Event, Ledger, told, usedBy, put, addServerRowsL, withServerL, enter}
 use Rattle.history.proofs.Tops.{top-wider}
 use Rattle.history.proofs.Events.{placeOf}
 use Rattle.history.proofs.Holds.{Holds}
@@ -60,7 +60,7 @@ module _ {capacity count : ℕ} {greatest : ℕ → Fraction} {events : List Eve
         (λ d.
         let l′ : k < count = omega (arith, eqb-false k count d) in
         readable-cong wider greatest id k (same k l′) ∙ H .opens id k j n l′ i b);
-    tops = λ id n. top-wider (bears capacity m id) count capacity (λ j i b. not-borne id j n i b) (placeOf (standing events id)) (H .tops id n);
+    tops = λ id n. top-wider (bears capacity m id) count capacity (λ j i b. not-borne id j n i b) (placeOf events id) (H .tops id n);
   }
 
 module _ {t : Table} {m : List ℕ} {L : Ledger} (A : Agree t m L) (weight : ℕ) where

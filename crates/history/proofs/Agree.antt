@@ -33,7 +33,7 @@ use Rattle.search.specs.Search.{Place, searchFor}
 use Rattle.search.proofs.Searches.{met-some, met-none}
 use Rattle.planning.specs.WriteRows.{target}
 use Rattle.history.specs.Call.{compared}
-use Rattle.history.specs.Ledger.{Ledger, Entered, enterBy, put, usedBy, standing, shortL, readyRowsL, targetL}
+use Rattle.history.specs.Ledger.{Ledger, Entered, enterBy, put, usedBy, shortL, readyRowsL, targetL}
 use Rattle.history.proofs.Tops.{TopAt, top-same}
 use Rattle.history.proofs.Events.{placeOf}
 use Rattle.history.proofs.Entering.{entered}
@@ -143,5 +143,5 @@ module _ {t : Table} {m : List ℕ} {L : Ledger} (A : Agree t m L) where
                 record { below = y .0; beside = y .1 };
           }
 
-  pub same-met : (id : ℕ) → id < contentRange → searchFor t m id .met ≡ placeOf (standing (L .events) id)
-  same-met id n = top-same (B id) (t .count) (t .capacity) (searchFor t m id .met) (placeOf (standing (L .events) id)) (meets id n) (A .holds .tops id n)
+  pub same-met : (id : ℕ) → id < contentRange → searchFor t m id .met ≡ placeOf (L .events) id
+  same-met id n = top-same (B id) (t .count) (t .capacity) (searchFor t m id .met) (placeOf (L .events) id) (meets id n) (A .holds .tops id n)

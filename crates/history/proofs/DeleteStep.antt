@@ -23,18 +23,18 @@ use Rattle.deletion.proofs.Done.{delete-all, delete-ready}
 use Rattle.deletion.specs.Deletion.{isMet, deleteRows, deleteMarks, deleteReply, deleteMedium}
 use Rattle.history.specs.Call.{delete, compared}
 use Rattle.history.specs.Ledger.{deleted, Ledger, Standing, usedBy, standing, isStanding, withEvent, deleteRowsL, enter}
-use Rattle.history.proofs.Events.{placeOf}
+use Rattle.history.proofs.Events.{placeOf, stands-placed, none-placed}
 use Rattle.history.proofs.DeletedMedium.{afterDelete, delete-holds}
 use Rattle.history.proofs.Agree.{Agree, Step, settled, same-ready, ledger-numbered, same-reads, same-marks, same-met}
 
 module _ {t : Table} {m : List ℕ} {L : Ledger} (A : Agree t m L) (id : ℕ) where
   same-found : id < contentRange → isMet (searchFor t m id .met) ≡ isStanding (standing (L .events) id)
-  unfolding isMet isStanding placeOf
-  same-found n = ap isMet (same-met A id n) ∙ go (standing (L .events) id)
+  unfolding isMet isStanding
+  same-found n = ap isMet (same-met A id n) ∙ go (standing (L .events) id) refl
     where
-      go : (o : Option Standing) → isMet (placeOf o) ≡ isStanding o
-      go none = refl
-      go (some x) = refl
+      go : (o : Option Standing) → standing (L .events) id ≡ o → isMet (placeOf (L .events) id) ≡ isStanding o
+      go none e = rw (none-placed (L .events) id e)
+      go (some x) e = rw (stands-placed (L .events) id x e)
 
   pub same-rows : firstOf (deleteRows t m id) ≡ firstOf (deleteRowsL L id)
   unfolding deleteRows deleteRowsL lookupRows

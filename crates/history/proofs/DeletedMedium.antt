@@ -15,7 +15,7 @@ use Rattle.placement.specs.Rule.{readable}
 use Rattle.medium.specs.Word.{deleted as deletedMark}
 use Rattle.medium.specs.Entry.{bears}
 use Rattle.medium.specs.Burn.{burnAll, marksOver, invalidations}
-use Rattle.history.specs.Ledger.{Event, deleted, usedBy, standing}
+use Rattle.history.specs.Ledger.{Event, deleted, usedBy}
 use Rattle.history.proofs.Tops.{TopAt, top-cong}
 use Rattle.history.proofs.Events.{placeOf, each-deleted, deleted-self, deleted-other}
 use Rattle.history.proofs.Holds.{Holds, once-written}
@@ -42,10 +42,10 @@ module _ {capacity count : ℕ} {greatest : ℕ → Fraction} {events : List Eve
       (done .less a k j i)
       (λ d b. done .others a k j l i (λ e. eqb-false id a d (sym e)) b)
 
-  others-stand : (a : ℕ) → a < contentRange → a ≢ id → TopAt (bears capacity N a) count capacity (placeOf (standing events a))
+  others-stand : (a : ℕ) → a < contentRange → a ≢ id → TopAt (bears capacity N a) count capacity (placeOf events a)
   others-stand a n f = top-cong (bears capacity m a) (bears capacity N a) count capacity
       (λ k j l i. iff-eq _ _ (done .less a k j i) (done .others a k j l i f))
-      (placeOf (standing events a)) (H .tops a n)
+      (placeOf events a) (H .tops a n)
 
   pub delete-holds : Holds capacity count greatest (deleted id ∷ events) N
   unfolding usedBy placeOf TopAt

@@ -3,7 +3,7 @@
 use Prim.Native.Nat.{ℕ, suc, _≤_, _<_}
 use mathlib.Core.Path.{_≡_, refl, sym, ap, _∙_}
 use mathlib.Core.Logic.{_≢_}
-use mathlib.Core.Bool.{true, not}
+use mathlib.Core.Bool.{true, cond, not}
 use mathlib.Core.Option.{Option, none, some}
 use mathlib.Core.List.{List, [], _∷_, _++_, tail-eq-of-cons-eq}
 use native.Mathlib.Omega.{arith}
@@ -15,14 +15,15 @@ use Rattle.search.specs.Search.{Place}
 use Rattle.history.specs.Ledger.{Event, wrote, deleted, Standing, usedBy, standing}
 use Rattle.history.specs.Demand3.{untouched, LastWrite}
 
--- a write that stands, with the events before it
-abbrev pub standingAfter : List Event → ℕ → ℕ → Standing
-standingAfter older value server = record { value = value; server = server; entry = usedBy older server }
+-- where a write has its entry, which is the server's used before it
+abbrev pub placeAfter : List Event → ℕ → Place
+placeAfter older server = record { server = server; entry = usedBy older server }
 
--- where the write that stands has its entry
-unfoldable pub placeOf : Option Standing → Option Place
-placeOf none = none
-placeOf (some x) = some (record { server = x .server; entry = x .entry })
+-- where the write of an id that stands has its entry; the ledger keeps no entries, so the events tell it
+unfoldable pub placeOf : List Event → ℕ → Option Place
+placeOf [] id = none
+placeOf (wrote a value server ∷ older) id = cond (eqb a id) (some (placeAfter older server)) (placeOf older id)
+placeOf (deleted a ∷ older) id = cond (eqb a id) none (placeOf older id)
 
 -- what holds of each write among the events, with those newer and those older
 abbrev pub EachWrite : List Event → ((newer older : List Event) (id value server : ℕ) → Type 0) → Type 0
@@ -87,60 +88,74 @@ own-entry (x ∷ newer) [] older older′ id value id′ value′ server e u =
 own-entry (x ∷ newer) (y ∷ newer′) older older′ id value id′ value′ server e u =
     own-entry newer newer′ older older′ id value id′ value′ server (tail-eq-of-cons-eq e) u
 
--- what stands is the last write
-stood : (newer older : List Event) (id value server : ℕ) → untouched id newer ≡ true
-    → standing (newer ++ (wrote id value server ∷ older)) id ≡ some (standingAfter older value server)
-unfolding standing untouched
-stood [] older id value server c = rw (eq-eqb id id refl)
-stood (wrote a v k ∷ newer) older id value server c =
-    rw (not-true (eqb a id) (and-l (not (eqb a id)) (untouched id newer) c)) (stood newer older id value server (and-r (not (eqb a id)) (untouched id newer) c))
-stood (deleted a ∷ newer) older id value server c =
-    rw (not-true (eqb a id) (and-l (not (eqb a id)) (untouched id newer) c)) (stood newer older id value server (and-r (not (eqb a id)) (untouched id newer) c))
+-- what stands is the last write, in its own entry
+module _ (id value server : ℕ) (older : List Event) where
+  stood : (newer : List Event) → untouched id newer ≡ true
+      → standing (newer ++ (wrote id value server ∷ older)) id ≡ some (record { value = value; server = server })
+  unfolding standing untouched
+  stood [] c = rw (eq-eqb id id refl)
+  stood (wrote a v k ∷ newer) c = rw (not-true (eqb a id) (and-l (not (eqb a id)) (untouched id newer) c)) (stood newer (and-r (not (eqb a id)) (untouched id newer) c))
+  stood (deleted a ∷ newer) c = rw (not-true (eqb a id) (and-l (not (eqb a id)) (untouched id newer) c)) (stood newer (and-r (not (eqb a id)) (untouched id newer) c))
 
-pub last-stands : (events : List Event) (id value server : ℕ) (w : LastWrite events id value server)
-    → standing events id ≡ some (standingAfter (w .older) value server)
-last-stands events id value server w = ap (λ (h : List Event). standing h id) (w .split) ∙ stood (w .newer) (w .older) id value server (w .clear)
+  placed : (newer : List Event) → untouched id newer ≡ true → placeOf (newer ++ (wrote id value server ∷ older)) id ≡ some (placeAfter older server)
+  unfolding placeOf untouched
+  placed [] c = rw (eq-eqb id id refl)
+  placed (wrote a v k ∷ newer) c = rw (not-true (eqb a id) (and-l (not (eqb a id)) (untouched id newer) c)) (placed newer (and-r (not (eqb a id)) (untouched id newer) c))
+  placed (deleted a ∷ newer) c = rw (not-true (eqb a id) (and-l (not (eqb a id)) (untouched id newer) c)) (placed newer (and-r (not (eqb a id)) (untouched id newer) c))
+
+module _ (events : List Event) (id value server : ℕ) (w : LastWrite events id value server) where
+  pub last-stands : standing events id ≡ some (record { value = value; server = server })
+  last-stands = ap (λ (h : List Event). standing h id) (w .split) ∙ stood id value server (w .older) (w .newer) (w .clear)
+
+  last-placed : placeOf events id ≡ some (placeAfter (w .older) server)
+  last-placed = ap (λ (h : List Event). placeOf h id) (w .split) ∙ placed id value server (w .older) (w .newer) (w .clear)
 
 -- and back
-pub record Came (events : List Event) (id : ℕ) (x : Standing) : Type 0 where
-  pub last : LastWrite events id (x .value) (x .server)
-  pub entryIs : x .entry ≡ usedBy (last .older) (x .server)
+last-on : (e : Event) (events : List Event) (id value server : ℕ) → ((l : List Event) → untouched id (e ∷ l) ≡ untouched id l)
+    → LastWrite events id value server → LastWrite (e ∷ events) id value server
+last-on e events id value server u l =
+    record { newer = e ∷ l .newer; older = l .older; split = ap (λ (h : List Event). e ∷ h) (l .split); clear = u (l .newer) ∙ l .clear }
 
-came-on : (e : Event) (events : List Event) (id : ℕ) (x : Standing) → ((l : List Event) → untouched id (e ∷ l) ≡ untouched id l) → Came events id x → Came (e ∷ events) id x
-came-on e events id x u i =
-    let l = i .last in
-    record {
-      last = record { newer = e ∷ l .newer; older = l .older; split = ap (λ (h : List Event). e ∷ h) (l .split); clear = u (l .newer) ∙ l .clear };
-      entryIs = i .entryIs;
-    }
-
-pub stands-came : (events : List Event) (id : ℕ) (x : Standing) → standing events id ≡ some x → Came events id x
+pub stands-came : (events : List Event) (id : ℕ) (x : Standing) → standing events id ≡ some x → LastWrite events id (x .value) (x .server)
 unfolding standing untouched
 stands-came [] id x e = let z : _≡_ {A = ℕ} 0 1 = cc in absurd (omega arith)
 stands-came (wrote a v k ∷ older) id x e = byBool (eqb a id)
     (λ d.
-    let q : some (standingAfter older v k) ≡ some x = rw d at e in
-    let y : standingAfter older v k ≡ x = cc in
-    rw (← y, ← (eqb-true a id d)) (record { last = record { newer = []; older = older; split = refl; clear = refl }; entryIs = refl }))
-    (λ d. came-on (wrote a v k) older id x (λ l. rw d) (stands-came older id x (rw d at e)))
+    let q : some (record { value = v; server = k }) ≡ some x = rw d at e in
+    let y : record { value = v; server = k } ≡ x = cc in
+    rw (← y, ← (eqb-true a id d)) (record { newer = []; older = older; split = refl; clear = refl }))
+    (λ d. last-on (wrote a v k) older id (x .value) (x .server) (λ l. rw d) (stands-came older id x (rw d at e)))
 stands-came (deleted a ∷ older) id x e = byBool (eqb a id)
     (λ d. let r : none ≡ some x = rw d at e in let z : _≡_ {A = ℕ} 0 1 = cc in absurd (omega arith))
-    (λ d. came-on (deleted a) older id x (λ l. rw d) (stands-came older id x (rw d at e)))
+    (λ d. last-on (deleted a) older id (x .value) (x .server) (λ l. rw d) (stands-came older id x (rw d at e)))
+
+pub stands-placed : (events : List Event) (id : ℕ) (x : Standing) (e : standing events id ≡ some x)
+    → placeOf events id ≡ some (placeAfter (stands-came events id x e .older) (x .server))
+stands-placed events id x e = last-placed events id (x .value) (x .server) (stands-came events id x e)
+
+-- where no write stands, none has a place
+pub none-placed : (events : List Event) (id : ℕ) → standing events id ≡ none → placeOf events id ≡ none
+unfolding standing placeOf
+none-placed [] id e = refl
+none-placed (wrote a v k ∷ older) id e = byBool (eqb a id)
+    (λ d. let r : some (record { value = v; server = k }) ≡ none = rw d at e in let z : _≡_ {A = ℕ} 0 1 = cc in absurd (omega arith))
+    (λ d. rw d (none-placed older id (rw d at e)))
+none-placed (deleted a ∷ older) id e = byBool (eqb a id) (λ d. rw d) (λ d. rw d (none-placed older id (rw d at e)))
 
 -- after a write
-pub wrote-self : (id value server : ℕ) (older : List Event) → standing (wrote id value server ∷ older) id ≡ some (standingAfter older value server)
-unfolding standing
+pub wrote-self : (id value server : ℕ) (older : List Event) → placeOf (wrote id value server ∷ older) id ≡ some (placeAfter older server)
+unfolding placeOf
 wrote-self id value server older = rw (eq-eqb id id refl)
 
-pub wrote-other : (id value server a : ℕ) (older : List Event) → a ≢ id → standing (wrote id value server ∷ older) a ≡ standing older a
-unfolding standing
+pub wrote-other : (id value server a : ℕ) (older : List Event) → a ≢ id → placeOf (wrote id value server ∷ older) a ≡ placeOf older a
+unfolding placeOf
 wrote-other id value server a older f = rw (ne-eqb id a (λ e. f (sym e)))
 
 -- after a delete
-pub deleted-self : (id : ℕ) (older : List Event) → standing (deleted id ∷ older) id ≡ none
-unfolding standing
+pub deleted-self : (id : ℕ) (older : List Event) → placeOf (deleted id ∷ older) id ≡ none
+unfolding placeOf
 deleted-self id older = rw (eq-eqb id id refl)
 
-pub deleted-other : (id a : ℕ) (older : List Event) → a ≢ id → standing (deleted id ∷ older) a ≡ standing older a
-unfolding standing
+pub deleted-other : (id a : ℕ) (older : List Event) → a ≢ id → placeOf (deleted id ∷ older) a ≡ placeOf older a
+unfolding placeOf
 deleted-other id a older f = rw (ne-eqb id a (λ e. f (sym e)))

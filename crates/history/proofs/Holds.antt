@@ -18,7 +18,7 @@ use Rattle.placement.specs.Rule.{readable}
 use Rattle.medium.specs.Word.{idWord, valueWord, blank}
 use Rattle.medium.specs.Entry.{serverAt, entryAt, valueAt, bears}
 use Rattle.medium.proofs.Entries.{bears-id}
-use Rattle.history.specs.Ledger.{Event, usedBy, standing}
+use Rattle.history.specs.Ledger.{Event, usedBy}
 use Rattle.history.proofs.Tops.{TopAt}
 use Rattle.history.proofs.Events.{placeOf, EachWrite, used-write}
 
@@ -41,7 +41,7 @@ pub record Holds (capacity count : ℕ) (greatest : ℕ → Fraction) (events : 
   pub stands : EachWrite events (λ newer older id value server. Written capacity m id value server (usedBy older server))
   -- what bears an id is readable for it, and the top one is that of its last write
   pub opens : (id k j : ℕ) → id < contentRange → k < count → j < capacity → bears capacity m id k j ≡ true → readable greatest id k ≡ true
-  pub tops : (id : ℕ) → id < contentRange → TopAt (bears capacity m id) count capacity (placeOf (standing events id))
+  pub tops : (id : ℕ) → id < contentRange → TopAt (bears capacity m id) count capacity (placeOf events id)
 
 module _ {capacity count : ℕ} {greatest : ℕ → Fraction} {events : List Event} {m : List ℕ} (H : Holds capacity count greatest events m) where
   free-id : (k j : ℕ) → k < count → usedBy events k ≤ j → j < capacity → nth m (entryAt capacity k j) ≡ blank

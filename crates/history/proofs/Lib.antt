@@ -19,3 +19,4 @@ pub mod Unaltered
 pub mod Theorem
 pub mod LiveRule
 pub mod Numbers
+pub mod Example

@@ -1,13 +1,16 @@
 -- The third demand, proved.
 -- Assumes nothing.
-use Prim.Native.Nat.{ℕ, _<_}
+use Prim.Native.Nat.{ℕ, _+_, _<_}
 use mathlib.Core.Path.{_≡_, refl, sym, ap, _∙_}
 use mathlib.Core.Logic.{_↔_}
 use mathlib.Core.List.{List, _∷_, _++_}
 use mathlib.Core.Option.{Option, none, some}
 use native.Mathlib.Omega.{arith}
+use lib.ListN.{length}
 use Rattle.limits.specs.Limits.{contentRange}
 use Rattle.lists.specs.Below.{nth}
+use Rattle.medium.specs.Entry.{entryWords, entryAt}
+use Rattle.medium.proofs.Places.{entry-apart}
 use Rattle.replies.specs.Refusal.{firstOf}
 use Rattle.replies.specs.declared.Reply.{Reply}
 use Rattle.lookup.specs.Lookup.{lookupReply}
@@ -16,14 +19,14 @@ use Rattle.history.specs.Call.{Call, Compared, compared}
 use Rattle.history.specs.Machine.{State, begin}
 use Rattle.history.specs.Ledger.{Event, wrote, Ledger, Standing, opening, usedBy, standing, standingReply}
 use Rattle.history.specs.Demand3.{Stands, Demand3, stateThen, ledgerThen}
-use Rattle.history.proofs.Events.{standingAfter, used-write, own-entry, last-stands, stands-came}
+use Rattle.history.proofs.Unaltered.{after-once, after-append}
+use Rattle.history.proofs.Events.{used-write, own-entry, last-stands, stands-came}
 use Rattle.history.proofs.Holds.{write-there}
 use Rattle.history.proofs.LookupStep.{stands-written, looked}
 use Rattle.history.proofs.Batches.{same-batch}
 use Rattle.history.proofs.Run.{Agrees, begin-agrees, run}
 use Rattle.history.proofs.Never.{never}
 use Rattle.history.proofs.Counting.{live-writes}
-use Rattle.history.proofs.Unaltered.{after-once, after-append}
 
 -- of a state and a ledger that agree
 module _ (S : State) (L : Ledger) (A : Agrees S L) where
@@ -43,10 +46,22 @@ module _ (S : State) (L : Ledger) (A : Agrees S L) where
         valueStands = rw (← (A .capacity)) (w .valueThere);
       }
 
+  -- the words of two entries that are inside differ, and no two writes have the same entry of a server
+  own : (newer older newer′ older′ : List Event) (id value server id′ value′ server′ : ℕ)
+      → L .events ≡ newer ++ (wrote id value server ∷ older) → L .events ≡ newer′ ++ (wrote id′ value′ server′ ∷ older′)
+      → (a b : ℕ) → a < entryWords → b < entryWords
+      → entryAt (L .capacity) server (usedBy older server) + a ≡ entryAt (L .capacity) server′ (usedBy older′ server′) + b
+      → length older ≡ length older′
+  own newer older newer′ older′ id value server id′ value′ server′ e e′ a b l l′ h =
+      let inside = stands newer older id value server e .inside in
+      let inside′ = stands newer′ older′ id′ value′ server′ e′ .inside in
+      let same = entry-apart (L .capacity) server (usedBy older server) a server′ (usedBy older′ server′) b inside inside′ l l′ h in
+      own-entry newer newer′ older older′ id value id′ value′ server (sym e ∙ rw (← (same .0)) at e′) (same .1 ∙ ap (usedBy older′) (sym (same .0)))
+
   finds : (id : ℕ) (x : Standing) → standing (L .events) id ≡ some x → (reply id .refusal ≡ 0) × (reply id .value ≡ x .value)
   unfolding compared standingReply
   finds id x e =
-      let w = stands-came (L .events) id x e .last in
+      let w = stands-came (L .events) id x e in
       let s = stands (w .newer) (w .older) id (x .value) (x .server) (w .split) in
       let r = looked A id (stands-written A id x e .idSmall) (omega (arith, A .count, s .there)) ∙ ap (standingReply L id) e in
       (ap (λ (c : Compared). c .refusal) r, ap (λ (c : Compared). c .value) r)
@@ -80,17 +95,17 @@ demand3 capacity n z calls =
     record {
       alike = r .alike;
       batches = λ before later ids e. same-batch (run before (begin capacity n) (opening capacity n) (begin-agrees capacity n z) .agrees) ids;
-      finds = λ id value server w. finds S L A id (standingAfter (w .older) value server) (last-stands (L .events) id value server w);
+      finds = λ id value server w. finds S L A id (record { value = value; server = server }) (last-stands (L .events) id value server w);
       absent = λ id s l. (
         λ e value server w. not-both (absent S L A id s l .0 e) (last-stands (L .events) id value server w),
-        λ f. absent S L A id s l .1 (nothing (standing (L .events) id) (λ x e. f (x .value) (x .server) (stands-came (L .events) id x e .last))),
+        λ f. absent S L A id s l .1 (nothing (standing (L .events) id) (λ x e. f (x .value) (x .server) (stands-came (L .events) id x e))),
       );
       unaltered = λ before later e a f.
           ap (λ (l : List Call). nth (stateThen capacity n l .medium) a) (sym e)
           ∙ ap (λ (T : State). nth (T .medium) a) (after-append before later (begin capacity n))
           ∙ after-once later (stateThen capacity n before) a f;
       stands = stands S L A;
-      own = λ newer older newer′ older′ id value id′ value′ server p q u. own-entry newer newer′ older older′ id value id′ value′ server (sym p ∙ q) u;
+      own = own S L A;
       live = live-writes S L A;
       never = λ before later c e. never (stateThen capacity n before) (ledgerThen capacity n before) (run before (begin capacity n) (opening capacity n) (begin-agrees capacity n z) .agrees) c;
     }

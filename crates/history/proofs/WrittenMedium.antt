@@ -21,7 +21,7 @@ use Rattle.medium.specs.Entry.{entryAt, valueAt, markAt, bears}
 use Rattle.medium.specs.Burn.{burnAll, marksOver, invalidations}
 use Rattle.medium.proofs.Places.{entry-in, entry-apart}
 use Rattle.medium.proofs.Entries.{bears-i, bears-id, bears-cong}
-use Rattle.history.specs.Ledger.{Event, wrote, usedBy, standing}
+use Rattle.history.specs.Ledger.{Event, wrote, usedBy}
 use Rattle.history.proofs.Tops.{Upto, Top, TopAt, top-cong}
 use Rattle.history.proofs.Events.{placeOf, each-wrote, used-self, used-other, used-grows, wrote-self, wrote-other}
 use Rattle.history.proofs.Holds.{Written, Holds, bears-used, Once, once-blank, once-written}
@@ -150,10 +150,10 @@ module _ {capacity count : ℕ} {greatest : ℕ → Fraction} {events : List Eve
       go (fresh x y z) = rw (x, z) (W .reads)
       go (before o) = H .opens a k j n l i o
 
-  others-stand : (a : ℕ) → a < contentRange → a ≢ id → TopAt (bears capacity N a) count capacity (placeOf (standing events a))
+  others-stand : (a : ℕ) → a < contentRange → a ≢ id → TopAt (bears capacity N a) count capacity (placeOf events a)
   others-stand a n f = top-cong (bears capacity m a) (bears capacity N a) count capacity
       (λ k j l i. iff-eq _ _ (λ b. go k j (from a k j i b)) (λ b. done .others a k j l i f (off-bears a k j i (λ x y. not-borne a k j n x y b) ∙ b)))
-      (placeOf (standing events a)) (H .tops a n)
+      (placeOf events a) (H .tops a n)
     where
       go : (k j : ℕ) → From a k j → bears capacity m a k j ≡ true
       go k j (fresh x y z) = absurd (f z)

@@ -1,5 +1,5 @@
 -- The third demand: what holds after every list of calls, and of batches of lookups between them, from a fresh table and blank words.
-use Prim.Native.Nat.{ℕ, _≤_, _<_}
+use Prim.Native.Nat.{ℕ, _+_, _≤_, _<_}
 use mathlib.Core.Bool.{Bool, true, not, _&&_}
 use mathlib.Core.Path.{_≡_}
 use mathlib.Core.Logic.{_↔_, _≢_}
@@ -9,7 +9,7 @@ use lib.Dec.{eqb}
 use Rattle.limits.specs.Limits.{contentRange}
 use Rattle.lists.specs.Below.{nth}
 use Rattle.medium.specs.Word.{idWord, valueWord, blank}
-use Rattle.medium.specs.Entry.{entryAt, valueAt}
+use Rattle.medium.specs.Entry.{entryWords, entryAt, valueAt}
 use Rattle.replies.specs.declared.Reply.{Reply}
 use Rattle.lookup.specs.Lookup.{lookupReply}
 use Rattle.batch.specs.Batch.{batchReply}
@@ -81,11 +81,12 @@ module _ (capacity n : ℕ) (calls : List Call) where
     pub stands : (newer older : List Event) (id value server : ℕ)
         → L .events ≡ newer ++ (wrote id value server ∷ older)
         → Stands S L id value server (usedBy older server)
-    -- which is its own: two accepted writes with the same entry of the same server are the same write
-    pub own : (newer older newer′ older′ : List Event) (id value id′ value′ server : ℕ)
+    -- which is its own: two accepted writes whose entries share a word of the medium, on any servers, are the same write
+    pub own : (newer older newer′ older′ : List Event) (id value server id′ value′ server′ : ℕ)
         → L .events ≡ newer ++ (wrote id value server ∷ older)
-        → L .events ≡ newer′ ++ (wrote id′ value′ server ∷ older′)
-        → usedBy older server ≡ usedBy older′ server
+        → L .events ≡ newer′ ++ (wrote id′ value′ server′ ∷ older′)
+        → (a b : ℕ) → a < entryWords → b < entryWords
+        → entryAt (L .capacity) server (usedBy older server) + a ≡ entryAt (L .capacity) server′ (usedBy older′ server′) + b
         → length older ≡ length older′
     -- the live entries of all ids together are at most the accepted writes
     pub live : liveEntries S ≤ writes (L .events)

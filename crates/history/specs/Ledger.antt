@@ -56,28 +56,27 @@ usedBy [] k = 0
 usedBy (wrote id value server ∷ older) k = cond (eqb server k) 1 0 + usedBy older k
 usedBy (deleted id ∷ older) k = usedBy older k
 
-unfoldable pub writes : List Event → ℕ
-writes [] = 0
-writes (wrote id value server ∷ older) = suc (writes older)
-writes (deleted id ∷ older) = writes older
-
--- a write that stands: its value, its server, and its entry, which is the server's used before it
+-- a write that stands: its value and its server
 pub record Standing : Type 0 where
   pub value : ℕ
   pub server : ℕ
-  pub entry : ℕ
 
 -- the last write of an id with no delete of it afterwards
 unfoldable pub standing : List Event → ℕ → Option Standing
 standing [] id = none
 standing (wrote a value server ∷ older) id =
-    cond (eqb a id) (some (record { value = value; server = server; entry = usedBy older server }))
-    (standing older id)
+    cond (eqb a id) (some (record { value = value; server = server })) (standing older id)
 standing (deleted a ∷ older) id = cond (eqb a id) none (standing older id)
 
 unfoldable pub isStanding : Option Standing → Bool
 isStanding none = false
 isStanding (some x) = true
+
+-- the number of all writes
+unfoldable pub writes : List Event → ℕ
+writes [] = 0
+writes (wrote id value server ∷ older) = suc (writes older)
+writes (deleted id ∷ older) = writes older
 
 -- what a call makes of the ledger, and its reply
 pub record Entered : Type 0 where
