@@ -1,6 +1,6 @@
 -- The plain ledger (document 01, "The plain ledger"). It is fed the capacity, the medium's length and the calls' arguments,
--- and nothing from table or medium; of the archive it shares the published rule, and how rows of refusals and the parts of a
--- batch are put together.
+-- and nothing from table or medium; of the archive it shares the published rule, which of two fractions is kept (`raise`), and how
+-- rows of refusals and the parts of a batch are put together.
 use Prim.Native.Nat.{ℕ, suc, _+_, _-_, _*_}
 use mathlib.Core.Bool.{Bool, true, false, cond, not, _&&_, _||_}
 use mathlib.Core.List.{List, [], _∷_, _++_}
