@@ -13,7 +13,7 @@ use Rattle.lists.proofs.Below.{length-setBelow, setBelow-at, setBelow-above, nt
 use Rattle.batch_answer.specs.Answer.{filled}
 
 module _ (f : ℕ → ℕ) (n : ℕ) (few : n ≤ 256) where
-  filled-at : (i : ℕ) → i < n → nth (filled f n) i ≡ f i
+  pub filled-at : (i : ℕ) → i < n → nth (filled f n) i ≡ f i
   unfolding filled
   filled-at i l = setBelow-at f n (replicate 256 0) (rw (length-replicate {A = ℕ} 256 0) few) i l
 
@@ -21,7 +21,7 @@ module _ (f : ℕ → ℕ) (n : ℕ) (few : n ≤ 256) where
   unfolding filled
   filled-above i l = setBelow-above f n (replicate 256 0) i l ∙ nth-zeros 256 i
 
-  length-filled : length (filled f n) ≡ 256
+  pub length-filled : length (filled f n) ≡ 256
   unfolding filled
   length-filled = length-setBelow f n (replicate 256 0) ∙ length-replicate {A = ℕ} 256 0
 

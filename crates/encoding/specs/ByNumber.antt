@@ -30,6 +30,10 @@ callAt words i = callOf (callWord words i numberOffset) (callWord words i subjec
 abbrev pub noCall : ℕ
 noCall = 4294967295
 
+-- the answer where words that are lent are too few, another number that no call gives
+abbrev pub tooShort : ℕ
+tooShort = 4294967294
+
 unfoldable pub replyTo : State → Option Call → Reply
 replyTo S none = refused noCall 0
 replyTo S (some c) = reply S c

@@ -30,6 +30,9 @@ pub use words::reply_from;
 pub use words::room;
 pub use words::store;
 
+// The answer where words that are lent are too few, a number that no call gives.
+pub const TOO_SHORT: u32 = 4294967294;
+
 // A reply, and the table after the call.
 pub struct Ran {
     pub reply: Reply,

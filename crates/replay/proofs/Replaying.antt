@@ -45,12 +45,12 @@ after-more : (S : State) (calls : List ℕ) (i : ℕ) → after S (callsBelow ca
 unfolding callsBelow
 after-more S calls i = rw add-one (appended-after S (callsBelow calls i) (callAt calls i))
 
-replies-more : (f : ℕ → Reply) (i : ℕ) (words : List ℕ) → withReplies f (i + 1) words ≡ withReply (withReplies f i words) i (f i)
+pub replies-more : (f : ℕ → Reply) (i : ℕ) (words : List ℕ) → withReplies f (i + 1) words ≡ withReply (withReplies f i words) i (f i)
 unfolding withReplies
 replies-more f i words = rw add-one
 
 module _ (f : ℕ → Reply) (words : List ℕ) where
-  length-withReplies : (n : ℕ) → length (withReplies f n words) ≡ length words
+  pub length-withReplies : (n : ℕ) → length (withReplies f n words) ≡ length words
   unfolding withReplies
   length-withReplies zero = refl
   length-withReplies (suc n) = length-withReply (withReplies f n words) n (f n) ∙ length-withReplies n

@@ -1,0 +1,153 @@
+-- `batch_words::lookup_batch` meets its contract: by whether the runs are long enough, then by whether the list is refused.
+use Prim.Native.Nat.{_<_}
+use mathlib.Core.Path.{_≡_, refl, sym, ap, _∙_}
+use native.Mathlib.Omega.{arith}
+use lib.ListN.{length}
+use borrow.Author.Needs.{needs}
+use borrow.Author.Tests.{not-true, not-false}
+use Rattle.table.specs.declared.Table.{Table}
+use Rattle.table.specs.Words.{tableFrom}
+use Rattle.batch.specs.Batch.{batchReply}
+use Rattle.batch_words.proofs.Storing.{Fits, they-fit, few-ids, opened-small, mounts-small, length-order, batch-short, batch-refused, batch-done}
+use Rattle.batch_words.proofs.lookup_batch.Statement.{statement}
+use Rattle.batch_words.proofs.lookup_batch.Tie as tie
+
+-- the start, from where the runs were measured; where the batch was looked up; where it is not refused; and where its replies are stored
+abbrev S : tie.After-fits2 → tie.Start
+S c = c .before .before .before .before .before .before .before .before .before .before
+
+abbrev F : tie.After-lookup-batch → tie.After-fits2
+F c = c .before .before .before
+
+abbrev B : tie.After-store-replies-arg → tie.After-lookup-batch
+B c = c .before .before
+
+abbrev R : tie.After-store-front-arg2 → tie.After-store-replies
+R c = c .before .before .before .before .before
+
+-- the runs are long enough
+fit : (c : tie.Else1) → let a = S (c .before) .args in Fits (length (a .ids .now)) (a .table .now) (a .replies .now) (a .order .now) (a .mounts .now)
+fit c =
+    let a = S (c .before) .args in
+    they-fit (length (a .ids .now)) (a .table .now) (a .replies .now) (a .order .now) (a .mounts .now) (sym (c .before .fits2 .ensures) ∙ not-false _ (c .if1 .left))
+
+-- the answer to the list
+answer : (c : tie.After-lookup-batch) → let a = S (F c) .args in c .lookup-batch .result ≡ batchReply (tableFrom (a .table .now)) (a .medium .now) (a .ids .now)
+answer c = let a = S (F c) .args in c .lookup-batch .ensures ∙ ap (λ (t : Table). batchReply t (a .medium .now) (a .ids .now)) (c .before .table-from .ensures .0)
+
+fits-requires : tie.Need-fits-requires
+fits-requires c κs = search needs
+
+same-length : tie.Need-same-length
+same-length c = search needs
+
+same-length-2 : tie.Need-same-length-2
+same-length-2 c = search needs
+
+same-length-3 : tie.Need-same-length-3
+same-length-3 c = search needs
+
+returns : tie.Need-returns
+returns c =
+    let f = c .before in
+    let a = S f .args in
+    batch-short (a .table .now) (a .medium .now) (a .ids .now) (a .replies .now) (a .order .now) (a .mounts .now) _ (f .fits2 .ensures) (not-true _ (c .if1 .taken))
+
+table-from-requires : tie.Need-table-from-requires
+table-from-requires c κs = fit c .hasTable
+
+lookup-batch-requires : tie.Need-lookup-batch-requires
+lookup-batch-requires c κs = search needs
+
+same-length-4 : tie.Need-same-length-4
+same-length-4 c = search needs
+
+same-length-5 : tie.Need-same-length-5
+same-length-5 c = search needs
+
+same-length-6 : tie.Need-same-length-6
+same-length-6 c = search needs
+
+returns-2 : tie.Need-returns-2
+returns-2 c =
+    let b = c .before in
+    let f = F b in
+    let a = S f .args in
+    batch-refused (a .table .now) (a .medium .now) (a .ids .now) (a .replies .now) (a .order .now) (a .mounts .now) _ (f .fits2 .ensures) (not-false _ (b .before .before .if1 .left)) _ (answer b) (c .if2 .taken)
+
+-- the list is not refused
+accepted : (c : tie.After-store-replies-arg) → B c .lookup-batch .result .refusal ≡ 0
+accepted c = c .before .if2 .left
+
+store-replies-requires : tie.Need-store-replies-requires
+store-replies-requires c κs =
+    let b = B c in
+    let a = S (F b) .args in (
+      few-ids (tableFrom (a .table .now)) (a .medium .now) (a .ids .now) _ (answer b) (accepted c),
+      (fit (b .before .before) .hasReplies, opened-small (tableFrom (a .table .now)) (a .medium .now) (a .ids .now) _ (answer b) (accepted c)),
+    )
+
+store-front-requires : tie.Need-store-front-requires
+store-front-requires c κs =
+    let q = R c .before in
+    let b = B q in
+    let a = S (F b) .args in (
+      length-order (tableFrom (a .table .now)) (a .medium .now) (a .ids .now) _ (answer b) (accepted q),
+      (few-ids (tableFrom (a .table .now)) (a .medium .now) (a .ids .now) _ (answer b) (accepted q), fit (b .before .before) .hasOrder),
+    )
+
+-- the number of servers opened
+small : (c : tie.After-store-replies-arg) → B c .lookup-batch .result .mounts < 4294967296
+small c =
+    let b = B c in
+    let a = S (F b) .args in
+    mounts-small (tableFrom (a .table .now)) (a .medium .now) (a .ids .now) _ (answer b) (accepted c) (omega (arith, b .before .table-from .ensures .1, ap (λ (t : Table). t .count) (b .before .table-from .ensures .0)))
+
+cast-mounts : tie.Need-cast-mounts
+cast-mounts c = omega (arith, small (R (c .before .before .before) .before))
+
+slice-write-mounts : tie.Need-slice-write-mounts
+slice-write-mounts c = let b = B (R (c .before .before .before) .before) in omega (arith, fit (b .before .before) .hasMounts)
+
+same-length-7 : tie.Need-same-length-7
+same-length-7 c = search needs
+
+same-length-8 : tie.Need-same-length-8
+same-length-8 c = search needs
+
+same-length-9 : tie.Need-same-length-9
+same-length-9 c = search needs
+
+returns-3 : tie.Need-returns-3
+returns-3 c =
+    let f = c .before .before in
+    let r = R (f .before) in
+    let q = r .before in
+    let b = B q in
+    let a = S (F b) .args in
+    batch-done (a .table .now) (a .medium .now) (a .ids .now) (a .replies .now) (a .order .now) (a .mounts .now) _ (F b .fits2 .ensures) (not-false _ (b .before .before .if1 .left)) _ (answer b) (accepted q)
+    _ _ _ (r .store-replies .ensures) (f .store-front .ensures) refl
+
+pub lookup-batch-spec : {M : Type 1} → statement M
+lookup-batch-spec =
+    tie.close
+    (tie.spec
+    fits-requires
+    same-length
+    same-length-2
+    same-length-3
+    returns
+    table-from-requires
+    lookup-batch-requires
+    same-length-4
+    same-length-5
+    same-length-6
+    returns-2
+    store-replies-requires
+    store-front-requires
+    cast-mounts
+    slice-write-mounts
+    same-length-7
+    same-length-8
+    same-length-9
+    returns-3)

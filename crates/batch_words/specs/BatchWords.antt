@@ -1,0 +1,51 @@
+-- A batch of lookups on a table lent as words: what it answers, and what it leaves in each run of words. Where a run is too short
+-- it answers a number that no call gives, and every run is left as lent.
+use Prim.Native.Nat.{ℕ, _*_}
+use mathlib.Core.Bool.{Bool, cond, _&&_}
+use mathlib.Core.List.{List}
+use lib.ListN.{length, set}
+use lib.Dec.{leb, eqb}
+use Rattle.lists.specs.Below.{nth, setBelow}
+use Rattle.table.specs.Words.{tableLength, tableFrom}
+use Rattle.replies.specs.declared.Reply.{Reply}
+use Rattle.lookup.specs.Lookup.{lookupReply}
+use Rattle.batch_answer.specs.declared.Batch.{Batch}
+use Rattle.batch.specs.Batch.{batchReply}
+use Rattle.encoding.specs.Encoding.{replyLength}
+use Rattle.encoding.specs.ByNumber.{tooShort}
+use Rattle.replay.specs.Replay.{withReplies}
+
+-- a batch of lookups: the number of the list, each id's reply as a lookup of it alone gives it, the order and the mounts
+
+pub record CalledBatch : Type 0 where
+  pub number : ℕ
+  pub replies : List ℕ
+  pub order : List ℕ
+  pub mounts : List ℕ
+
+-- by the number of the ids
+unfoldable pub fitsBatch : ℕ → List ℕ → List ℕ → List ℕ → List ℕ → Bool
+fitsBatch n table replies order mounts =
+    leb tableLength (length table) && (leb (replyLength * n) (length replies) && (leb n (length order) && leb 1 (length mounts)))
+
+-- by the whole answer to the list: the words of a refused one are left as lent
+unfoldable pub batchStored : List ℕ → List ℕ → List ℕ → List ℕ → List ℕ → List ℕ → Batch → CalledBatch
+batchStored table m ids replies order mounts b =
+    cond (eqb (b .refusal) 0)
+    (record {
+      number = 0;
+      replies = withReplies (λ i. lookupReply (tableFrom table) m (nth ids i)) (length ids) replies;
+      order = setBelow (nth (b .order)) (length ids) order;
+      mounts = set mounts 0 (b .mounts);
+    })
+    (record { number = b .refusal; replies = replies; order = order; mounts = mounts })
+
+unfoldable pub calledBatch : List ℕ → List ℕ → List ℕ → List ℕ → List ℕ → List ℕ → CalledBatch
+calledBatch table m ids replies order mounts =
+    cond (fitsBatch (length ids) table replies order mounts)
+    (batchStored table m ids replies order mounts (batchReply (tableFrom table) m ids))
+    (record { number = tooShort; replies = replies; order = order; mounts = mounts })
+
+-- the reply to the id at position i, by the parts of the answer
+unfoldable pub lookupPart : Batch → ℕ → Reply
+lookupPart b i = record { refusal = nth (b .refusals) i; server = 0; value = nth (b .values) i; opened = nth (b .opened) i; invalidated = 0 }
