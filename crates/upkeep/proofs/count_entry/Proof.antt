@@ -8,14 +8,17 @@ use Rattle.upkeep.proofs.count_entry.Tie as tie
 mul-used : tie.Need-mul-used
 mul-used c = search needs
 
-element-copy-out-used : tie.Need-element-copy-out-used
-element-copy-out-used c = search needs
+slice-read-used : tie.Need-slice-read-used
+slice-read-used c = search needs
 
 add-used : tie.Need-add-used
 add-used c = search needs
 
-element-write-used : tie.Need-element-write-used
-element-write-used c = search needs
+slice-write-used : tie.Need-slice-write-used
+slice-write-used c = search needs
+
+same-length : tie.Need-same-length
+same-length c = search needs
 
 returns : tie.Need-returns
 unfolding oneMore
@@ -23,4 +26,4 @@ returns c = rw add-one
 
 pub count-entry-spec : {M : Type 1} → statement M
 count-entry-spec =
-    tie.close (tie.spec mul-used element-copy-out-used add-used element-write-used returns)
+    tie.close (tie.spec mul-used slice-read-used add-used slice-write-used same-length returns)
