@@ -1,7 +1,7 @@
 // A batch: up to 256 ids looked up together, server by server from the highest down, each opened at most once for all the ids
 // that it is read for.
 ghost use mathlib.Core.Path.{_≡_};
-ghost use Rattle.table.specs.Parts.{tableOf};
+ghost use Rattle.table.specs.Parts.{tableOf, Whole};
 ghost use Rattle.batch_answer.specs.Answer.{refusedBatch};
 ghost use Rattle.batch.specs.Batch.{longNumber, batchReply};
 use batch_answer::Batch;
@@ -13,6 +13,7 @@ use table::Table;
 
 // The answer to a list that is too long.
 fn refuse_list<'a>(shape: Shape, columns: Columns<'a>) -> Batch
+    requires { ⌜ Whole columns ⌝ }
     ensures { λ r. ⌜ r ≡ refusedBatch (longNumber (tableOf shape (columns .entry))) ⌝ }
 {
     if table::is_sound(shape, columns) {
@@ -29,7 +30,7 @@ pub fn lookup_batch(table: Table, medium: &[u32], ids: &[u32]) -> Batch
         capacity: table.capacity,
         count: table.count,
     };
-    let columns = [
+    let columns: Columns = [
         &table.weights,
         &table.used,
         &table.numerators,

@@ -1,6 +1,6 @@
 // The tests that write, delete, lookup and a batch of lookups share.
 ghost use mathlib.Core.Path.{_≡_};
-ghost use Rattle.table.specs.Parts.{tableOf};
+ghost use Rattle.table.specs.Parts.{tableOf, Whole};
 ghost use Rattle.replies.specs.Refusal.{firstOf};
 ghost use Rattle.replies.specs.Reply.{checkNumber};
 ghost use Rattle.checks.specs.Ready.{readyRows};
@@ -11,6 +11,7 @@ use table::Shape;
 
 // The tests in the order of document 01's numbers. `outside` says whether an argument of the call is out of range.
 pub fn ready<'a>(shape: Shape, columns: Columns<'a>, medium: &[u32], outside: bool) -> Check
+    requires { ⌜ Whole columns ⌝ }
     ensures { λ r. ⌜ checkNumber r ≡ firstOf (readyRows (tableOf shape (columns .entry)) (now (medium .entry)) outside) ⌝ }
 {
     let capacity = shape.capacity;

@@ -1,6 +1,6 @@
 // Delete: every live entry of an id on every readable server is invalidated.
 ghost use mathlib.Core.Path.{_≡_};
-ghost use Rattle.table.specs.Parts.{tableOf};
+ghost use Rattle.table.specs.Parts.{tableOf, Whole};
 ghost use Rattle.replies.specs.Reply.{replyOfDelete};
 ghost use Rattle.deletion.specs.Deletion.{deleteReply, deleteMedium};
 use limits::CONTENT_RANGE;
@@ -11,13 +11,14 @@ use table::Columns;
 use table::Shape;
 use table::Table;
 
-// Delete on a table whose arrays are borrowed.
+// Delete on a table whose columns are borrowed.
 pub fn delete_in<'a>(
     shape: Shape,
     columns: Columns<'a>,
     medium: &mut [u32],
     id: u32,
 ) -> DeleteAnswer
+    requires { ⌜ Whole columns ⌝ }
     ensures reply { λ r. ⌜ replyOfDelete r ≡ deleteReply (tableOf shape (columns .entry)) (now (medium .entry)) id ⌝ }
     ensures medium { λ _. ⌜ now (medium .exit) ≡ deleteMedium (tableOf shape (columns .entry)) (now (medium .entry)) id ⌝ }
 {
@@ -41,7 +42,7 @@ pub fn delete(table: Table, medium: &mut [u32], id: u32) -> DeleteAnswer
         capacity: table.capacity,
         count: table.count,
     };
-    let columns = [
+    let columns: Columns = [
         &table.weights,
         &table.used,
         &table.numerators,

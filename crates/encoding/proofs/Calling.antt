@@ -4,6 +4,7 @@ use Prim.Native.Nat.{ℕ, _<_}
 use mathlib.Core.Path.{_≡_, sym, ap, _∙_}
 use mathlib.Core.Logic.{_≢_}
 use mathlib.Core.List.{List}
+use lib.ListN.{length}
 use mathlib.Core.Option.{Option, none, some}
 use native.Mathlib.Omega.{arith}
 use lib.Dec.{eqb}
@@ -60,8 +61,10 @@ module _ (S : State) (number subject amount : ℕ) where
     written-to-here : number ≡ writeNumber → r .refusal ≡ 0 → WrittenTo (S .table) (S .medium) subject amount (r .server)
     written-to-here d z = written-to (S .table) (S .medium) subject amount r (written-here d) z
 
-    pub counts : number ≡ writeNumber → r .refusal ≡ 0 → (r .server < 256) × (usedOf (S .table) (r .server) < 65536)
-    counts d z =
+    -- what `count_write` asks of a whole column
+    pub counts : length (S .table .used) ≡ 256 → number ≡ writeNumber → r .refusal ≡ 0
+        → (r .server < length (S .table .used)) × (usedOf (S .table) (r .server) < 65536)
+    counts l d z =
         let f = written-to-here d z in
         let s = sound-facts (S .table) (f .isSound) in
         (omega arith, omega arith)

@@ -4,13 +4,13 @@ mod words;
 ghost use mathlib.Core.Path.{_≡_};
 ghost use mathlib.Core.Logic.{_≢_};
 ghost use Prim.Native.Nat.{_<_};
-ghost use Rattle.limits.specs.Limits.{maxServers, maxCapacity};
+ghost use lib.ListN.{length};
+ghost use Rattle.limits.specs.Limits.{maxCapacity};
 ghost use Rattle.lists.specs.Below.{nth};
-ghost use Rattle.table.specs.Parts.{tableOf};
+ghost use Rattle.table.specs.Parts.{tableOf, Whole};
 ghost use Rattle.replies.specs.Number.{addServerNumber, reweightNumber, writeNumber};
 ghost use Rattle.replies.specs.Reply.{refused, replyOfServer};
 ghost use Rattle.encoding.specs.ByNumber.{callOf, noCall, replyTo, nextBy, usedAfter};
-use limits::Column;
 use replies::ADD_SERVER;
 use replies::DELETE;
 use replies::LOOKUP;
@@ -64,7 +64,7 @@ fn no_call() -> Reply
     }
 }
 
-// Runs a call but add_server and reweight on a table whose arrays are borrowed. `count_write` then makes the table after it.
+// Runs a call but add_server and reweight on a table whose columns are borrowed. `count_write` then makes the table after it.
 pub fn run_in<'a>(
     shape: Shape,
     columns: Columns<'a>,
@@ -73,6 +73,7 @@ pub fn run_in<'a>(
     subject: u32,
     amount: u32,
 ) -> Reply
+    requires { ⌜ Whole columns ⌝ }
     requires { ⌜ (number ≢ addServerNumber) × (number ≢ reweightNumber) ⌝ }
     ensures reply { λ r. ⌜ r ≡ replyTo (record { table = tableOf shape (columns .entry); medium = now (medium .entry) }) (callOf number subject amount) ⌝ }
     ensures medium { λ _. ⌜ now (medium .exit) ≡ nextBy (record { table = tableOf shape (columns .entry); medium = now (medium .entry) }) (callOf number subject amount) .medium ⌝ }
@@ -86,8 +87,8 @@ pub fn run_in<'a>(
 }
 
 // Counts the entry of an accepted write as used on its server; no other call but add_server and reweight changes the table.
-pub fn count_write(used: &mut Column, number: u32, reply: Reply)
-    requires { ⌜ (number ≡ writeNumber → reply .refusal ≡ 0 → (reply .server < maxServers) × (nth (now used) (reply .server) < maxCapacity)) ⌝ }
+pub fn count_write(used: &mut [u32], number: u32, reply: Reply)
+    requires { ⌜ (number ≡ writeNumber → reply .refusal ≡ 0 → (reply .server < length (now used)) × (nth (now used) (reply .server) < maxCapacity)) ⌝ }
     ensures { λ _. ⌜ now (used .exit) ≡ usedAfter (now (used .entry)) number reply ⌝ }
 {
     if number == WRITE {

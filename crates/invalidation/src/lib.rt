@@ -6,7 +6,7 @@ ghost use Rattle.limits.specs.Limits.{contentRange};
 ghost use Rattle.lists.specs.Below.{nth};
 ghost use Rattle.medium.specs.Entry.{AllInside};
 ghost use Rattle.medium.specs.Burn.{burnAll, invalidations};
-ghost use Rattle.table.specs.Parts.{tableOf, column};
+ghost use Rattle.table.specs.Parts.{column, tableOf, Whole};
 ghost use Rattle.invalidation.specs.Marks.{marksFrom};
 use placement::Fraction;
 use table::Columns;
@@ -22,6 +22,7 @@ pub fn invalidate<'a>(
     from: usize,
     content: u32,
 ) -> usize
+    requires { ⌜ Whole columns ⌝ }
     requires { ⌜ AllInside (shape .capacity) (shape .count) (nth (column columns 1)) (now medium) ⌝ }
     requires { ⌜ content < contentRange ⌝ }
     ensures count { λ r. ⌜ r ≡ length (marksFrom (tableOf shape (columns .entry)) (now (medium .entry)) id from) ⌝ }

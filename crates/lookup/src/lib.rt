@@ -3,7 +3,7 @@ ghost use mathlib.Core.Path.{_≡_};
 ghost use mathlib.Core.Option.{some};
 ghost use Prim.Native.Nat.{_<_};
 ghost use Rattle.medium.specs.Entry.{Inside};
-ghost use Rattle.table.specs.Parts.{tableOf};
+ghost use Rattle.table.specs.Parts.{tableOf, Whole};
 ghost use Rattle.replies.specs.Reply.{replyOfLookup};
 ghost use Rattle.lookup.specs.Lookup.{metReply, lookupReply};
 use limits::CONTENT_RANGE;
@@ -35,8 +35,9 @@ pub fn met(
     }
 }
 
-// Lookup on a table whose arrays are borrowed: the value of an id, or why there is none, and how many servers were opened.
+// Lookup on a table whose columns are borrowed: the value of an id, or why there is none, and how many servers were opened.
 pub fn lookup_in<'a>(shape: Shape, columns: Columns<'a>, medium: &[u32], id: u32) -> LookupAnswer
+    requires { ⌜ Whole columns ⌝ }
     ensures { λ r. ⌜ replyOfLookup r ≡ lookupReply (tableOf shape (columns .entry)) (now (medium .entry)) id ⌝ }
 {
     let capacity = shape.capacity;
@@ -59,7 +60,7 @@ pub fn lookup(table: Table, medium: &[u32], id: u32) -> LookupAnswer
         capacity: table.capacity,
         count: table.count,
     };
-    let columns = [
+    let columns: Columns = [
         &table.weights,
         &table.used,
         &table.numerators,

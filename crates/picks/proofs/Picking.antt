@@ -1,48 +1,35 @@
--- Laws of the write servers over weights that were copied into an array.
+-- Laws of the write servers over weights that passed their test.
 -- Assumes nothing.
 use Prim.Native.Nat.{ℕ, _<_, min}
-use mathlib.Core.Path.{_≡_, refl, _∙_}
+use mathlib.Core.Path.{_≡_, refl}
 use mathlib.Core.Bool.{true, false}
 use mathlib.Core.List.{List}
 use native.Mathlib.Omega.{arith}
-use lib.ListN.{length, List·getD-append}
-use lib.Seq.{take-length}
+use lib.ListN.{length}
 use lib.Dec.{leb}
 use borrow.Author.Tests.{leb-true}
 use Rattle.lists.specs.Below.{nth, setBelow}
-use Rattle.lists.specs.Array.{arrayAt}
 use Rattle.lists.proofs.Tests.{and-l, and-r}
 use Rattle.lists.proofs.Below.{allBelow-out, highest-le}
 use Rattle.placement.specs.Draw.{modulus, drawOf}
 use Rattle.placement.specs.Rule.{writeP, takes, pick, writeServer, Bounded}
 use Rattle.picks.specs.Picks.{light, bounded, picksOf}
-use Rattle.placement.proofs.Rules.{pick-cong}
 
--- a weight as copied
-copied : (ws : List ℕ) (k : ℕ) → k < length ws → nth (arrayAt ws 0 (length ws)) k ≡ nth ws k
-unfolding arrayAt
-copied ws k l = rw (take-length ws) (List·getD-append ws _ 0 k l)
-
-pub bounded-copied : (ws : List ℕ) → bounded ws ≡ true → Bounded (arrayAt ws 0 (length ws)) (length ws)
+pub bounded-facts : (ws : List ℕ) → bounded ws ≡ true → Bounded ws (length ws)
 unfolding bounded
-bounded-copied ws e = record {
+bounded-facts ws e = record {
   few = leb-true (length ws) 256 (and-l _ _ (and-r (leb 1 (length ws)) _ e));
-  light = λ k l. rw (copied ws k l) (leb-true (nth ws k) 65536 (allBelow-out (light ws) (length ws) (and-r (leb (length ws) 256) _ (and-r (leb 1 (length ws)) _ e)) k l));
+  each = omega arith;
+  light = λ k l. leb-true (nth ws k) 65536 (allBelow-out (light ws) (length ws) (and-r (leb (length ws) 256) _ (and-r (leb 1 (length ws)) _ e)) k l);
 }
 
 -- the write server of id i
 abbrev pub serverOf : List ℕ → List ℕ → ℕ → ℕ
 serverOf ws ids i = writeServer (nth ws) (length ws) (nth ids i)
 
-pub picked-copied : (ws ids array : List ℕ) (i k : ℕ) → array ≡ arrayAt ws 0 (length ws) → k ≡ writeServer (nth array) (length ws) (nth ids i) → k ≡ serverOf ws ids i
-unfolding writeServer
-picked-copied ws ids array i k a e =
-    e
-    ∙ rw a (pick-cong modulus (drawOf (nth ids i)) (nth (arrayAt ws 0 (length ws))) (nth ws) (length ws) (copied ws))
-
 pub picked-small : (ws ids : List ℕ) (i k : ℕ) → bounded ws ≡ true → k ≡ serverOf ws ids i → k < 4294967296
 unfolding writeServer pick
-picked-small ws ids i k b e = omega (arith, highest-le (takes modulus (drawOf (nth ids i)) (writeP (nth ws))) (length ws), bounded-copied ws b .few)
+picked-small ws ids i k b e = omega (arith, highest-le (takes modulus (drawOf (nth ids i)) (writeP (nth ws))) (length ws), bounded-facts ws b .few)
 
 -- what `picks` ensures where it answers n
 abbrev pub Done : List ℕ → List ℕ → List ℕ → ℕ → List ℕ → Type 0

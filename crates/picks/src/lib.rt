@@ -38,11 +38,10 @@ pub extern "C" fn picks(weights: &[u32], ids: &[u32], servers: &mut [u32]) -> us
         return 0;
     }
     let count = weights.len();
-    let array = lists::array_at(weights, 0, count);
     let n = lists::lesser(ids.len(), servers.len());
     let mut i: usize = 0;
     while i < n {
-        servers[i] = placement::write_server(&array, count, ids[i]) as u32;
+        servers[i] = placement::write_server(weights, count, ids[i]) as u32;
         i += 1;
     }
     n

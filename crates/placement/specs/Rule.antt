@@ -5,6 +5,7 @@ use mathlib.Core.Bool.{Bool, true, false, cond}
 use mathlib.Core.List.{List}
 use mathlib.Core.Path.{_≡_}
 use lib.Dec.{eqb}
+use lib.ListN.{length}
 use Rattle.limits.specs.Limits.{maxServers, maxCapacity}
 use Rattle.lists.specs.Below.{nth, highest, orZero, total}
 use Rattle.placement.specs.declared.Fraction.{Fraction}
@@ -44,7 +45,8 @@ pub record Picked (m : ℕ) (draw weight : ℕ → ℕ) (n k : ℕ) : Type 0 whe
   pub takesIt : takes m draw (writeP weight) k ≡ true
   pub noneAbove : (i : ℕ) → k < i → i < n → takes m draw (writeP weight) i ≡ false
 
--- at most 256 servers, each of a weight of at most 65,536: their sum is at most 2^24
+-- at most 256 servers and a weight for each, of at most 65,536: their sum is at most 2^24
 pub record Bounded (weights : List ℕ) (n : ℕ) : Type 0 where
   pub few : n ≤ maxServers
+  pub each : n ≤ length weights
   pub light : (k : ℕ) → k < n → nth weights k ≤ maxCapacity

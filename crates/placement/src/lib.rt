@@ -7,7 +7,6 @@ ghost use Rattle.lists.specs.Below.{nth, total};
 ghost use Rattle.placement.specs.Draw.{modulus, stepOf, seedOf, roundOf, drawOf};
 ghost use Rattle.placement.specs.Fraction.{exceeds, atLeast};
 ghost use Rattle.placement.specs.Rule.{shareOf, writeServer, Bounded};
-use limits::Column;
 
 // A fraction as document 01 keeps it: a pair, not reduced.
 pub struct Fraction {
@@ -106,7 +105,7 @@ pub fn takes(f: Fraction, id: u32, server: usize) -> bool
 }
 
 // The sum of the first `count` weights.
-pub fn sum_weights(weights: &Column, count: usize) -> u32
+pub fn sum_weights(weights: &[u32], count: usize) -> u32
     requires { ⌜ Bounded (now weights) count ⌝ }
     ensures { λ r. ⌜ r ≡ total (nth (now (weights .entry))) count ⌝ }
 {
@@ -120,7 +119,7 @@ pub fn sum_weights(weights: &Column, count: usize) -> u32
 }
 
 // The write server of an id among `count` servers: from the highest down, the first whose WriteP exceeds its draw.
-pub fn write_server(weights: &Column, count: usize, id: u32) -> usize
+pub fn write_server(weights: &[u32], count: usize, id: u32) -> usize
     requires { ⌜ Bounded (now weights) count ⌝ }
     ensures { λ r. ⌜ r ≡ writeServer (nth (now (weights .entry))) count id ⌝ }
 {

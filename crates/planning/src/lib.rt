@@ -1,6 +1,6 @@
 // The tests before a write, in the order of document 01's numbers, and the server that it goes to.
 ghost use mathlib.Core.Path.{_≡_};
-ghost use Rattle.table.specs.Parts.{tableOf};
+ghost use Rattle.table.specs.Parts.{tableOf, Whole};
 ghost use Rattle.replies.specs.Refusal.{firstOf, settle};
 ghost use Rattle.planning.specs.Plan.{planNumber, planServer};
 ghost use Rattle.planning.specs.WriteRows.{target, writeRows};
@@ -24,6 +24,7 @@ pub fn plan_write<'a>(
     id: u32,
     value: u32,
 ) -> Plan
+    requires { ⌜ Whole columns ⌝ }
     ensures number { λ r. ⌜ planNumber r ≡ firstOf (writeRows (tableOf shape (columns .entry)) (now (medium .entry)) id value) ⌝ }
     ensures server { λ r. ⌜ planServer r ≡ settle (writeRows (tableOf shape (columns .entry)) (now (medium .entry)) id value) (target (tableOf shape (columns .entry)) id) 0 ⌝ }
 {

@@ -1,12 +1,15 @@
 // Encoded lists of calls, run: on a started table, where the replies are the plain ledger's if the words are blank, and on a
 // table lent as words.
 ghost use mathlib.Core.Path.{_≡_};
-ghost use Prim.Native.Nat.{_≤_, _*_};
+ghost use Prim.Native.Nat.{_≤_, _<_, _*_};
 ghost use lib.ListN.{length};
+ghost use Rattle.limits.specs.Limits.{maxCapacity};
+ghost use Rattle.lists.specs.Below.{nth};
 ghost use Rattle.table.specs.Words.{withTable};
+ghost use Rattle.replies.specs.Number.{writeNumber};
 ghost use Rattle.history.specs.Machine.{after};
 ghost use Rattle.encoding.specs.Encoding.{callLength, replyLength};
-ghost use Rattle.encoding.specs.ByNumber.{callOf, replyTo, nextBy};
+ghost use Rattle.encoding.specs.ByNumber.{callOf, replyTo, nextBy, usedAfter};
 ghost use Rattle.replay.specs.Replay.{callsBelow, withReplies, runs, started, replyAt, LedgerWords};
 ghost use Rattle.replay.specs.Lent.{lent, resumes};
 use encoding::AMOUNT_OFFSET;
@@ -15,10 +18,20 @@ use encoding::NUMBER_OFFSET;
 use encoding::REPLY_LENGTH;
 use encoding::Ran;
 use encoding::SUBJECT_OFFSET;
+use limits::Column;
 use replies::Check;
+use replies::Reply;
 use replies::WRITE;
 use table::Shape;
 use table::Table;
+
+// Counts the entry of an accepted write in the column of a table by value. A field that is an array can be lent as an array alone.
+fn count_in(used: &mut Column, number: u32, reply: Reply)
+    requires { ⌜ (number ≡ writeNumber → reply .refusal ≡ 0 → (reply .server < length (now used)) × (nth (now used) (reply .server) < maxCapacity)) ⌝ }
+    ensures { λ _. ⌜ now (used .exit) ≡ usedAfter (now (used .entry)) number reply ⌝ }
+{
+    encoding::count_write(used, number, reply);
+}
 
 // Runs the first `n` encoded calls on a table, which stays in one place: only add_server and reweight take it by value. A call
 // and its reply have as many words, so both begin at the same word.
@@ -61,7 +74,7 @@ fn run_calls(
                 subject,
                 amount,
             );
-            encoding::count_write(&mut next.used, number, lent);
+            count_in(&mut next.used, number, lent);
             lent
         };
         encoding::store(replies, at, reply);

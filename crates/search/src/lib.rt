@@ -2,7 +2,7 @@
 ghost use mathlib.Core.Path.{_≡_};
 ghost use Rattle.lists.specs.Below.{nth};
 ghost use Rattle.medium.specs.Entry.{AllInside};
-ghost use Rattle.table.specs.Parts.{tableOf, column};
+ghost use Rattle.table.specs.Parts.{column, tableOf, Whole};
 ghost use Rattle.search.specs.Search.{searchFor, foundBy};
 use placement::Fraction;
 use table::Columns;
@@ -16,6 +16,7 @@ pub enum Found {
 
 // The entry that a lookup meets, and how many servers it opens.
 pub fn find<'a>(shape: Shape, columns: Columns<'a>, medium: &[u32], id: u32) -> Found
+    requires { ⌜ Whole columns ⌝ }
     requires { ⌜ AllInside (shape .capacity) (shape .count) (nth (column columns 1)) (now medium) ⌝ }
     ensures { λ r. ⌜ r ≡ foundBy (searchFor (tableOf shape (columns .entry)) (now (medium .entry)) id) ⌝ }
 {

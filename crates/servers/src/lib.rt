@@ -6,6 +6,7 @@ ghost use Rattle.replies.specs.Reply.{replyOfCheck, replyOfServer};
 ghost use Rattle.servers.specs.Servers.{startReply, startTable, addServerReply, addServerTable, reweightReply, reweightTable};
 use replies::Check;
 use replies::ServerAnswer;
+use table::Columns;
 use table::Shape;
 use table::Table;
 
@@ -53,7 +54,7 @@ pub fn add_server(table: Table, medium: &[u32], weight: u32) -> Placed
         capacity: table.capacity,
         count: table.count,
     };
-    let columns = [
+    let columns: Columns = [
         &table.weights,
         &table.used,
         &table.numerators,
@@ -85,7 +86,7 @@ pub fn reweight(table: Table, server: usize, weight: u32) -> Placed
         capacity: table.capacity,
         count: table.count,
     };
-    let columns = [
+    let columns: Columns = [
         &table.weights,
         &table.used,
         &table.numerators,

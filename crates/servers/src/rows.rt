@@ -1,7 +1,7 @@
-// The tests before start, add_server and reweight, in the order of document 01's numbers. They borrow the table's arrays, so
+// The tests before start, add_server and reweight, in the order of document 01's numbers. They borrow the table's columns, so
 // that none is copied.
 ghost use mathlib.Core.Path.{_≡_};
-ghost use Rattle.table.specs.Parts.{tableOf};
+ghost use Rattle.table.specs.Parts.{tableOf, Whole};
 ghost use Rattle.replies.specs.Refusal.{firstOf};
 ghost use Rattle.replies.specs.Reply.{checkNumber};
 ghost use Rattle.servers.specs.Servers.{startRows, addServerRows, reweightRows};
@@ -25,6 +25,7 @@ pub fn start(capacity: u32) -> Check
 }
 
 pub fn add_server<'a>(shape: Shape, columns: Columns<'a>, medium: &[u32], weight: u32) -> Check
+    requires { ⌜ Whole columns ⌝ }
     ensures { λ r. ⌜ checkNumber r ≡ firstOf (addServerRows (tableOf shape (columns .entry)) (now (medium .entry)) weight) ⌝ }
 {
     let capacity = shape.capacity;
@@ -53,6 +54,7 @@ pub fn add_server<'a>(shape: Shape, columns: Columns<'a>, medium: &[u32], weight
 }
 
 pub fn reweight<'a>(shape: Shape, columns: Columns<'a>, server: usize, weight: u32) -> Check
+    requires { ⌜ Whole columns ⌝ }
     ensures { λ r. ⌜ checkNumber r ≡ firstOf (reweightRows (tableOf shape (columns .entry)) server weight) ⌝ }
 {
     let capacity = shape.capacity;

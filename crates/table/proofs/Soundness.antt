@@ -95,8 +95,8 @@ pub server-unsound : (t : Table) (k : ℕ) → k < t .count → serverSound t k 
 server-unsound t k l e = byBool (sound t) (λ d. absurd (true-not-false (facts-server t k (sound-facts t d .server k l)) e)) (λ d. d)
 
 -- the weights of a sound table can be added
-pub sound-bounded : (t : Table) → Sound t → Bounded (t .weights) (t .count)
-sound-bounded t s = record { few = s .few; light = λ k l. omega (arith, s .server k l .light, s .high) }
+pub sound-bounded : (t : Table) → length (t .weights) ≡ 256 → Sound t → Bounded (t .weights) (t .count)
+sound-bounded t a s = record { few = s .few; each = omega (arith, s .few); light = λ k l. omega (arith, s .server k l .light, s .high) }
 
 pub empty-sound : (capacity : ℕ) → 1 ≤ capacity → capacity ≤ 65536 → sound (empty capacity) ≡ true
 empty-sound capacity a b = facts-sound (empty capacity) (record { low = a; high = b; few = omega arith; server = λ k l. absurd (omega arith) })

@@ -3,7 +3,8 @@
 use Prim.Native.Nat.{ℕ}
 use mathlib.Core.Bool.{Bool}
 use mathlib.Core.List.{List, []}
-use lib.ListN.{getD, replicate}
+use mathlib.Core.Path.{_≡_}
+use lib.ListN.{length, getD, replicate}
 use denote.Ref.{RefT}
 use Rattle.limits.specs.Limits.{maxServers}
 use Rattle.lists.specs.Below.{nth}
@@ -32,6 +33,13 @@ column columns i = getD columns i (record { ptr = (0, 0); name = 0; now = [] }) 
 -- the table that they belong to
 abbrev pub tableOf : Shape → List (RefT (List ℕ)) → Table
 tableOf shape columns = tableBy shape (column columns 0) (column columns 1) (column columns 2) (column columns 3)
+
+-- each column has a number for each server that there may be
+pub record Whole (columns : List (RefT (List ℕ))) : Type 0 where
+  pub weights : length (column columns 0) ≡ maxServers
+  pub used : length (column columns 1) ≡ maxServers
+  pub numerators : length (column columns 2) ≡ maxServers
+  pub denominators : length (column columns 3) ≡ maxServers
 
 -- a column of zeros, and the table of count 0
 abbrev pub zeros : List ℕ

@@ -3,7 +3,7 @@ mod words;
 
 ghost use mathlib.Core.Path.{_≡_};
 ghost use Rattle.placement.specs.Rule.{shareOf};
-ghost use Rattle.table.specs.Parts.{tableOf, empty};
+ghost use Rattle.table.specs.Parts.{tableOf, Whole, empty};
 ghost use Rattle.table.specs.Sound.{readSound, sound};
 use limits::Column;
 use limits::MAX_CAPACITY;
@@ -25,8 +25,9 @@ pub struct Table {
     pub denominators: Column,
 }
 
-// The columns of a table, lent together, in the order of its fields.
-pub type Columns<'a> = [&'a Column; 4];
+// The columns of a table, lent together, in the order of its fields. Each is a slice, so that it may be a part of lent words; who
+// takes them asks that each has a number for each server that there may be (`Whole`).
+pub type Columns<'a> = [&'a [u32]; 4];
 
 // The numbers of a table that are not one for each server.
 pub struct Shape {
@@ -64,8 +65,9 @@ fn read_sound(read: Fraction, server: usize, weight: u32, sum: u32) -> bool
     placement::at_least_write_p(read, server, weight, sum)
 }
 
-// Whether a table of any bits is sound. It borrows the arrays, so that a caller copies none.
+// Whether a table of any bits is sound. It borrows the columns, so that a caller copies none.
 pub fn is_sound<'a>(shape: Shape, columns: Columns<'a>) -> bool
+    requires { ⌜ Whole columns ⌝ }
     ensures { λ r. ⌜ r ≡ sound (tableOf shape (columns .entry)) ⌝ }
 {
     let capacity = shape.capacity;

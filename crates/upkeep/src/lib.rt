@@ -2,6 +2,7 @@
 ghost use mathlib.Core.Path.{_≡_};
 ghost use mathlib.Core.Bool.{true};
 ghost use Prim.Native.Nat.{_<_, _≤_};
+ghost use lib.ListN.{length};
 ghost use Rattle.limits.specs.Limits.{maxServers, maxCapacity};
 ghost use Rattle.lists.specs.Below.{nth};
 ghost use Rattle.table.specs.Sound.{sound};
@@ -59,12 +60,21 @@ pub fn with_weight(table: Table, server: usize, weight: u32) -> Table
 }
 
 // Counts one entry more as used on a server, in the column of the entries used.
-pub fn count_entry(used: &mut Column, server: usize)
-    requires { ⌜ server < maxServers ⌝ }
+pub fn count_entry(used: &mut [u32], server: usize)
+    requires { ⌜ server < length (now used) ⌝ }
     requires { ⌜ nth (now used) server ≤ maxCapacity ⌝ }
     ensures { λ _. ⌜ now (used .exit) ≡ oneMore (now (used .entry)) server ⌝ }
 {
     used[server] += 1;
+}
+
+// Counts so in the column of a table by value. A field that is an array can be lent as an array alone.
+fn count_in(used: &mut Column, server: usize)
+    requires { ⌜ server < length (now used) ⌝ }
+    requires { ⌜ nth (now used) server ≤ maxCapacity ⌝ }
+    ensures { λ _. ⌜ now (used .exit) ≡ oneMore (now (used .entry)) server ⌝ }
+{
+    count_entry(used, server);
 }
 
 // A sound table with one entry more used on a server.
@@ -74,6 +84,6 @@ pub fn with_entry(table: Table, server: usize) -> Table
     ensures { λ r. ⌜ r ≡ withEntry table server ⌝ }
 {
     let mut next = table;
-    count_entry(&mut next.used, server);
+    count_in(&mut next.used, server);
     next
 }

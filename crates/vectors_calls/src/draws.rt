@@ -2,8 +2,6 @@
 ghost use Prim.Native.Nat.{_≤_};
 ghost use Rattle.limits.specs.Limits.{maxCapacity};
 use crate::print;
-use limits::Column;
-use limits::MAX_SERVERS;
 use placement::Fraction;
 
 // A seed after this many rounds.
@@ -21,10 +19,7 @@ fn rounds(seed: u32, n: u32) -> u32 {
 fn picked(first: u32, second: u32, third: u32) -> u64
     requires { ⌜ (first ≤ maxCapacity) × (second ≤ maxCapacity) × (third ≤ maxCapacity) ⌝ }
 {
-    let mut weights: Column = [0; MAX_SERVERS];
-    weights[0] = first;
-    weights[1] = second;
-    weights[2] = third;
+    let weights: [u32; 3] = [first, second, third];
     placement::write_server(&weights, 3, 626627286) as u64
 }
 

@@ -5,7 +5,7 @@ ghost use lib.ListN.{length, set};
 ghost use Rattle.limits.specs.Limits.{contentRange};
 ghost use Rattle.medium.specs.Word.{idWord, valueWord};
 ghost use Rattle.medium.specs.Entry.{valuePlace};
-ghost use Rattle.table.specs.Parts.{tableOf};
+ghost use Rattle.table.specs.Parts.{tableOf, Whole};
 ghost use Rattle.replies.specs.Reply.{replyOfWrite};
 ghost use Rattle.writing.specs.Writing.{writeReply, writeTable, writeMedium};
 use planning::Plan;
@@ -29,7 +29,7 @@ fn enter(medium: &mut [u32], at: usize, id: u32, value: u32)
     medium[at] = id;
 }
 
-// Write on a table whose arrays are borrowed: the value and the id go to the write server's next entry, then each earlier
+// Write on a table whose columns are borrowed: the value and the id go to the write server's next entry, then each earlier
 // live entry of the id on readable servers at or above it is invalidated. The caller counts the entry as used on the server
 // that is answered.
 pub fn write_in<'a>(
@@ -39,6 +39,7 @@ pub fn write_in<'a>(
     id: u32,
     value: u32,
 ) -> WriteAnswer
+    requires { ⌜ Whole columns ⌝ }
     ensures reply { λ r. ⌜ replyOfWrite r ≡ writeReply (tableOf shape (columns .entry)) (now (medium .entry)) id value ⌝ }
     ensures medium { λ _. ⌜ now (medium .exit) ≡ writeMedium (tableOf shape (columns .entry)) (now (medium .entry)) id value ⌝ }
 {
@@ -67,7 +68,7 @@ pub fn write(table: Table, medium: &mut [u32], id: u32, value: u32) -> Written
         capacity: table.capacity,
         count: table.count,
     };
-    let columns = [
+    let columns: Columns = [
         &table.weights,
         &table.used,
         &table.numerators,

@@ -24,9 +24,12 @@ Inv-loop medium ids table n number servers parts₀ mounts₀ k₀ parts mounts 
 abbrev μ-loop : tie.MeasureT-loop
 μ-loop medium ids table n number servers parts₀ mounts₀ k₀ parts mounts k = k
 
--- places: the start, and where the number of servers is known
+-- the start, from the place where the columns are lent and from where the number of servers is known
+abbrev B : tie.After-t222 Inv-loop μ-loop → tie.Start Inv-loop μ-loop
+B c = c .before .before .before .before .before .before .before .before .before .before .before
+
 abbrev J : tie.Joined2 Inv-loop μ-loop → tie.Start Inv-loop μ-loop
-J j = j .before .before .before .before .before .before .before .before .before .before .before
+J j = B (j .before .before .before .before)
 
 abbrev S : tie.At-loop Inv-loop μ-loop → tie.Start Inv-loop μ-loop
 S l = J (l .before .before)
@@ -46,7 +49,7 @@ refuse-list-requires c κs = search needs
 
 returns : tie.Need-returns Inv-loop μ-loop
 returns c =
-    let s = c .before .before .before .before .before .before .before .before .before in
+    let s = B (c .before .before) in
     c .refuse-list .ensures ∙ batch-refused (T s) (M s) (I s) (omega (arith, c .before .if1 .taken))
 
 ready-requires : tie.Need-ready-requires Inv-loop μ-loop

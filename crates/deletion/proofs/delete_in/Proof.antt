@@ -54,7 +54,7 @@ enum-told : tie.Need-enum-told
 enum-told c = search needs
 
 invalidate-requires : tie.Need-invalidate-requires
-invalidate-requires c κs = (ready-accepted _ _ _ (accepted-here (c .before)) .inside, search needs)
+invalidate-requires c κs = (S (c .before .before .before) .pre, (ready-accepted _ _ _ (accepted-here (c .before)) .inside, search needs))
 
 -- where the tests were accepted
 abbrev E : tie.After-invalidate → tie.After-enum-told

@@ -28,7 +28,7 @@ abbrev μ-loop : tie.MeasureT-loop
 
 -- the start, and the loop's head
 abbrev S : tie.At-loop Inv-loop μ-loop → tie.Start Inv-loop μ-loop
-S l = l .before .before
+S l = l .before .before .before .before .before
 
 abbrev L : tie.After-takes Inv-loop μ-loop → tie.At-loop Inv-loop μ-loop
 L c = c .before .before .before .before
@@ -40,7 +40,7 @@ unfolding readable takes
 passes-here c = let l = L c in rw (le-leb (S l .args .from) (l .loop .k - 1) (omega arith)) (c .takes .ensures)
 
 fits-here : (c : tie.After-takes Inv-loop μ-loop) → let a = S (L c) .args in nth (column (a .t3) 1) (L c .loop .k - 1) ≤ a .shape .capacity
-fits-here c = let l = L c in left-fits (l .loop .inv) (S l .pre .0) (omega arith)
+fits-here c = let l = L c in left-fits (l .loop .inv) (S l .pre .1 .0) (omega arith)
 
 array-copy-out-used : tie.Need-array-copy-out-used Inv-loop μ-loop
 array-copy-out-used c = search needs
@@ -63,14 +63,14 @@ sub-k c = search needs
 mul-t25 : tie.Need-mul-t25 Inv-loop μ-loop
 mul-t25 c = search needs
 
-element-copy-out-t28 : tie.Need-element-copy-out-t28 Inv-loop μ-loop
-element-copy-out-t28 c = search needs
+shared-slice-read-t27 : tie.Need-shared-slice-read-t27 Inv-loop μ-loop
+shared-slice-read-t27 c = search needs
 
-mul-t29 : tie.Need-mul-t29 Inv-loop μ-loop
-mul-t29 c = search needs
+mul-t28 : tie.Need-mul-t28 Inv-loop μ-loop
+mul-t28 c = search needs
 
-element-copy-out-t32 : tie.Need-element-copy-out-t32 Inv-loop μ-loop
-element-copy-out-t32 c = search needs
+shared-slice-read-t30 : tie.Need-shared-slice-read-t30 Inv-loop μ-loop
+shared-slice-read-t30 c = search needs
 
 takes-requires : tie.Need-takes-requires Inv-loop μ-loop
 takes-requires c κs = search needs
@@ -78,8 +78,8 @@ takes-requires c κs = search needs
 mul-invalidate-server : tie.Need-mul-invalidate-server Inv-loop μ-loop
 mul-invalidate-server c = search needs
 
-element-copy-out-invalidate-server : tie.Need-element-copy-out-invalidate-server Inv-loop μ-loop
-element-copy-out-invalidate-server c = search needs
+shared-slice-read-invalidate-server : tie.Need-shared-slice-read-invalidate-server Inv-loop μ-loop
+shared-slice-read-invalidate-server c = search needs
 
 cast-invalidate-server : tie.Need-cast-invalidate-server Inv-loop μ-loop
 cast-invalidate-server c = omega (arith, fits-here (c .before .before .before))
@@ -88,13 +88,13 @@ invalidate-server-requires : tie.Need-invalidate-server-requires Inv-loop μ-loo
 invalidate-server-requires c κs =
     let x = c .before .before .before in
     let l = L x in
-    (left-inside (l .loop .inv) (S l .pre .0) (omega arith), (fits-here x, S l .pre .1))
+    (left-inside (l .loop .inv) (S l .pre .1 .0) (omega arith), (fits-here x, S l .pre .1 .1))
 
 add-n : tie.Need-add-n Inv-loop μ-loop
 add-n c =
     let i = c .before .before in
     let l = L (i .before .before .before .before) in
-    omega (arith, left-few (l .loop .inv) (S l .pre .0) (omega arith) (i .invalidate-server .ensures .0))
+    omega (arith, left-few (l .loop .inv) (S l .pre .1 .0) (omega arith) (i .invalidate-server .ensures .0))
 
 loop-less : tie.Need-loop-less Inv-loop μ-loop
 loop-less c = search needs
@@ -104,7 +104,7 @@ loop-again c =
     let i = c .before .before in
     let x = i .before .before .before in
     let l = L (x .before) in
-    left-yes (l .loop .inv) (S l .pre .0) (omega arith)
+    left-yes (l .loop .inv) (S l .pre .1 .0) (omega arith)
     (sym (passes-here (x .before)) ∙ x .if1 .taken) (i .invalidate-server .ensures .0) (i .invalidate-server .ensures .1)
 
 loop-less-2 : tie.Need-loop-less-2 Inv-loop μ-loop
@@ -113,7 +113,7 @@ loop-less-2 c = search needs
 loop-again-2 : tie.Need-loop-again-2 Inv-loop μ-loop
 loop-again-2 c =
     let l = L (c .before) in
-    left-no (l .loop .inv) (S l .pre .0) (omega arith) (sym (passes-here (c .before)) ∙ c .if1 .left)
+    left-no (l .loop .inv) (S l .pre .1 .0) (omega arith) (sym (passes-here (c .before)) ∙ c .if1 .left)
 
 same-length : tie.Need-same-length Inv-loop μ-loop
 same-length c = search needs
@@ -136,12 +136,12 @@ invalidate-spec =
     loop-holds
     sub-k
     mul-t25
-    element-copy-out-t28
-    mul-t29
-    element-copy-out-t32
+    shared-slice-read-t27
+    mul-t28
+    shared-slice-read-t30
     takes-requires
     mul-invalidate-server
-    element-copy-out-invalidate-server
+    shared-slice-read-invalidate-server
     cast-invalidate-server
     invalidate-server-requires
     add-n

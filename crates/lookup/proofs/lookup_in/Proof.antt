@@ -56,7 +56,7 @@ ready-here : (c : tie.After-enum-told) → Ready (T (c .before .before)) (M (c .
 ready-here c = lookup-accepted _ _ _ (accepted-here c)
 
 find-requires : tie.Need-find-requires
-find-requires c κs = ready-here c .inside
+find-requires c κs = (S (c .before .before) .pre, ready-here c .inside)
 
 -- where the search's answer is known
 abbrev E : tie.After-find → tie.After-enum-told

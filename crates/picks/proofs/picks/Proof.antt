@@ -9,26 +9,26 @@ use borrow.Author.Tests.{not-true, not-false}
 use Rattle.lists.specs.Below.{setBelow}
 use Rattle.lists.proofs.Below.{setBelow-more}
 use Rattle.picks.specs.Picks.{bounded}
-use Rattle.picks.proofs.Picking.{serverOf, bounded-copied, picked-copied, picked-small, none-picked, all-picked}
+use Rattle.picks.proofs.Picking.{serverOf, bounded-facts, picked-small, none-picked, all-picked}
 use Rattle.picks.proofs.picks.Statement.{statement}
 use Rattle.picks.proofs.picks.Tie as tie
 
 abbrev Inv-loop : tie.InvT-loop
-Inv-loop weights ids servers₀ count array n i₀ servers i =
+Inv-loop weights ids servers₀ count n i₀ servers i =
     (i ≤ n) × (servers ≡ setBelow (serverOf weights ids) i servers₀) × (length servers ≡ length servers₀)
 
 abbrev μ-loop : tie.MeasureT-loop
-μ-loop weights ids servers₀ count array n i₀ servers i = n - i
+μ-loop weights ids servers₀ count n i₀ servers i = n - i
 
 -- the start, the branch where the weights are bounded, and the loop's head
 abbrev S : tie.Else1 Inv-loop μ-loop → tie.Start Inv-loop μ-loop
 S c = c .before .before .before .before .before
 
 abbrev B : tie.At-loop Inv-loop μ-loop → tie.Else1 Inv-loop μ-loop
-B l = l .before .before .before
+B l = l .before .before
 
 abbrev L : tie.After-write-server Inv-loop μ-loop → tie.At-loop Inv-loop μ-loop
-L c = c .before .before .before .before
+L c = c .before .before .before
 
 are-bounded : (c : tie.Else1 Inv-loop μ-loop) → bounded (S c .args .weights .now) ≡ true
 are-bounded c = sym (c .before .are-bounded .ensures) ∙ not-false _ (c .if1 .left)
@@ -40,11 +40,6 @@ returns : tie.Need-returns Inv-loop μ-loop
 returns c =
     let a = c .before .before .before .before .before .args in
     none-picked (a .weights .now) (a .ids .now) (a .servers .now) (sym (c .before .are-bounded .ensures) ∙ not-true _ (c .if1 .taken))
-
-array-at-requires : tie.Need-array-at-requires Inv-loop μ-loop
-array-at-requires c κs =
-    let few = bounded-copied (S c .args .weights .now) (are-bounded c) .few in
-    search needs
 
 lesser-requires : tie.Need-lesser-requires Inv-loop μ-loop
 lesser-requires c κs = search needs
@@ -60,15 +55,11 @@ shared-slice-read-write-server : tie.Need-shared-slice-read-write-server Inv-loo
 shared-slice-read-write-server c = search needs
 
 write-server-requires : tie.Need-write-server-requires Inv-loop μ-loop
-write-server-requires c κs =
-    let l = c .before .before .before in
-    rw (l .before .before .array-at .ensures) (bounded-copied (S (B l) .args .weights .now) (are-bounded (B l)))
+write-server-requires c κs = let b = B (c .before .before) in bounded-facts (S b .args .weights .now) (are-bounded b)
 
 -- the write server of the id that the loop stands at
 picked : (c : tie.After-write-server Inv-loop μ-loop) → c .write-server .result ≡ serverOf (S (B (L c)) .args .weights .now) (S (B (L c)) .args .ids .now) (L c .loop .i)
-picked c =
-    let a = S (B (L c)) .args in
-    picked-copied (a .weights .now) (a .ids .now) _ (L c .loop .i) _ (L c .before .before .array-at .ensures) (c .write-server .ensures)
+picked c = c .write-server .ensures
 
 cast-servers : tie.Need-cast-servers Inv-loop μ-loop
 cast-servers c =
@@ -111,7 +102,6 @@ picks-spec =
     μ-loop
     are-bounded-requires
     returns
-    array-at-requires
     lesser-requires
     loop-holds
     mul-write-server

@@ -25,8 +25,8 @@ loop-holds c = (search needs, c .pre .few, refl, search needs)
 mul-sum : tie.Need-mul-sum Inv-loop μ-loop
 mul-sum c = search needs
 
-element-copy-out-sum : tie.Need-element-copy-out-sum Inv-loop μ-loop
-element-copy-out-sum c = search needs
+shared-slice-read-sum : tie.Need-shared-slice-read-sum Inv-loop μ-loop
+shared-slice-read-sum c = search needs
 
 add-sum : tie.Need-add-sum Inv-loop μ-loop
 add-sum c = omega (arith, light-here (c .before))
@@ -53,7 +53,7 @@ sum-weights-spec =
     μ-loop
     loop-holds
     mul-sum
-    element-copy-out-sum
+    shared-slice-read-sum
     add-sum
     add-i
     loop-less

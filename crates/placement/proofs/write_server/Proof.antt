@@ -4,6 +4,7 @@ use mathlib.Core.Path.{_≡_, refl, sym, ap, _∙_}
 use mathlib.Core.Bool.{Bool, true, false, cond}
 use mathlib.Core.Option.{some}
 use native.Mathlib.Omega.{arith}
+use lib.ListN.{length}
 use borrow.Author.Needs.{needs}
 use Rattle.lists.specs.Below.{nth, highest, orZero, total}
 use Rattle.lists.proofs.Below.{total-last, highest-last}
@@ -15,7 +16,7 @@ use Rattle.placement.proofs.write_server.Tie as tie
 
 abbrev Inv-loop : tie.InvT-loop
 Inv-loop weights count id sum₀ k₀ sum k =
-    (k ≤ 256) × (sum ≡ total (nth weights) k)
+    (k ≤ 256) × (k ≤ length weights) × (sum ≡ total (nth weights) k)
     × (writeServer (nth weights) count id ≡ orZero (highest (takes modulus (drawOf id) (writeP (nth weights))) k))
 
 abbrev μ-loop : tie.MeasureT-loop
@@ -26,7 +27,7 @@ sum-weights-requires c κs = search needs
 
 loop-holds : tie.Need-loop-holds Inv-loop μ-loop
 unfolding writeServer pick
-loop-holds c = (c .before .pre .few, c .sum-weights .ensures, refl)
+loop-holds c = (search needs, search needs, c .sum-weights .ensures, refl)
 
 sub-k : tie.Need-sub-k Inv-loop μ-loop
 sub-k c = search needs
@@ -34,8 +35,8 @@ sub-k c = search needs
 mul-weight : tie.Need-mul-weight Inv-loop μ-loop
 mul-weight c = search needs
 
-element-copy-out-weight : tie.Need-element-copy-out-weight Inv-loop μ-loop
-element-copy-out-weight c = search needs
+shared-slice-read-weight : tie.Need-shared-slice-read-weight Inv-loop μ-loop
+shared-slice-read-weight c = search needs
 
 write-p-requires : tie.Need-write-p-requires Inv-loop μ-loop
 write-p-requires c κs = search needs
@@ -43,26 +44,29 @@ write-p-requires c κs = search needs
 takes-requires : tie.Need-takes-requires Inv-loop μ-loop
 takes-requires c κs = search needs
 
--- the loop's head, and what the places after it are over
+-- the loop's head, the start, and the weights
 abbrev L : tie.After-takes Inv-loop μ-loop → tie.At-loop Inv-loop μ-loop
 L c = c .before .before .before .before
 
+abbrev S : tie.At-loop Inv-loop μ-loop → tie.Start Inv-loop μ-loop
+S l = l .before .before .before
+
 abbrev W : tie.At-loop Inv-loop μ-loop → ℕ → ℕ
-W l = nth (l .before .before .args .weights .now)
+W l = nth (S l .args .weights .now)
 
 -- the server that the loop stands at takes the id
 takes-here : (c : tie.After-takes Inv-loop μ-loop)
-    → takes modulus (drawOf (L c .before .before .args .id)) (writeP (W (L c))) (L c .loop .k - 1) ≡ c .takes .result
+    → takes modulus (drawOf (S (L c) .args .id)) (writeP (W (L c))) (L c .loop .k - 1) ≡ c .takes .result
 takes-here c =
     let l = L c in
-    takes-last modulus (drawOf (l .before .before .args .id)) (W l) (l .loop .k) (search needs) ∙ cc
+    takes-last modulus (drawOf (S l .args .id)) (W l) (l .loop .k) (search needs) ∙ cc
 
 rest : (c : tie.After-takes Inv-loop μ-loop) (b : Bool) → c .takes .result ≡ b
-    → writeServer (W (L c)) (L c .before .before .args .count) (L c .before .before .args .id)
-    ≡ orZero (cond b (some (L c .loop .k - 1)) (highest (takes modulus (drawOf (L c .before .before .args .id)) (writeP (W (L c)))) (L c .loop .k - 1)))
+    → writeServer (W (L c)) (S (L c) .args .count) (S (L c) .args .id)
+    ≡ orZero (cond b (some (L c .loop .k - 1)) (highest (takes modulus (drawOf (S (L c) .args .id)) (writeP (W (L c)))) (L c .loop .k - 1)))
 rest c b e =
     let l = L c in
-    l .loop .inv .2 ∙ ap orZero (highest-last (takes modulus (drawOf (l .before .before .args .id)) (writeP (W l))) (l .loop .k) b (search needs) (takes-here c ∙ e))
+    l .loop .inv .3 ∙ ap orZero (highest-last (takes modulus (drawOf (S l .args .id)) (writeP (W l))) (l .loop .k) b (search needs) (takes-here c ∙ e))
 
 returns : tie.Need-returns Inv-loop μ-loop
 unfolding orZero
@@ -77,13 +81,13 @@ loop-less c = search needs
 loop-again : tie.Need-loop-again Inv-loop μ-loop
 loop-again c =
     let l = L (c .before) in
-    (search needs, omega (arith, total-last (W l) (l .loop .k) (search needs)), rest (c .before) false (c .if1 .left))
+    (search needs, search needs, omega (arith, total-last (W l) (l .loop .k) (search needs)), rest (c .before) false (c .if1 .left))
 
 returns-2 : tie.Need-returns-2 Inv-loop μ-loop
 unfolding highest orZero
 returns-2 c =
     let e : c .before .loop .k ≡ 0 = omega arith in
-    sym (c .before .loop .inv .2 ∙ rw e)
+    sym (c .before .loop .inv .3 ∙ rw e)
 
 pub write-server-spec : {M : Type 1} → statement M
 write-server-spec =
@@ -95,7 +99,7 @@ write-server-spec =
     loop-holds
     sub-k
     mul-weight
-    element-copy-out-weight
+    shared-slice-read-weight
     write-p-requires
     takes-requires
     returns

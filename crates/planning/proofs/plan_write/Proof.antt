@@ -39,7 +39,7 @@ ready-requires c κs = search needs
 
 -- the table and the medium that are tested, and the rows
 abbrev S : tie.After-ready → tie.Start
-S c = c .before .before
+S c = c .before .before .before .before
 
 abbrev T : tie.After-ready → Table
 T c = let a = S c .args in tableOf (a .shape) (a .t2)
@@ -87,7 +87,7 @@ unfolding writeRows
 rest c = first-later (shared (R c)) _ (ready-numbered (T (R c)) (M (R c)) (outside (R c))) (accepted c)
 
 write-server-requires : tie.Need-write-server-requires
-write-server-requires c κs = sound-bounded (T (R c)) (sound-facts (T (R c)) (ready c .isSound))
+write-server-requires c κs = sound-bounded (T (R c)) (S (R c) .pre .weights) (sound-facts (T (R c)) (ready c .isSound))
 
 -- the server picked is the write server, and it is there
 abbrev E : tie.After-write-server → tie.After-enum-told
@@ -110,8 +110,8 @@ few w = omega (arith, there w, ready (E w) .inside .few)
 mul-entry : tie.Need-mul-entry
 mul-entry w = let l = few w in search needs
 
-element-copy-out-entry : tie.Need-element-copy-out-entry
-element-copy-out-entry w = few w
+shared-slice-read-entry : tie.Need-shared-slice-read-entry
+shared-slice-read-entry w = let l = few (w .before) in search needs
 
 -- its used entries
 fits-here : (w : tie.After-write-server) → usedOf (T (R (E w))) (w .write-server .result) ≤ T (R (E w)) .capacity
@@ -175,7 +175,7 @@ plan-write-spec =
     enum-told
     write-server-requires
     mul-entry
-    element-copy-out-entry
+    shared-slice-read-entry
     returns-2
     cast-entry-at
     cast-entry-at-2

@@ -78,13 +78,13 @@ abbrev amount : tie.At-loop Inv-loop μ-loop → ℕ
 amount l = nth (calls l) (l .loop .at + amountOffset)
 
 run-in-requires : tie.Need-run-in-requires Inv-loop μ-loop
-run-in-requires c κs = (λ e. omega arith, λ e. omega arith)
+run-in-requires c κs = (search needs, (λ e. omega arith, λ e. omega arith))
 
-count-write-requires : tie.Need-count-write-requires Inv-loop μ-loop
-count-write-requires c κs =
+count-in-requires : tie.Need-count-in-requires Inv-loop μ-loop
+count-in-requires c κs =
     let r = c .before .before .before in
-    let l = L (r .before .before .before .before .before .before .before .before) in
-    counts (S l) (number l) (subject l) (amount l) (r .run-in .result) (r .run-in .ensures .0)
+    let l = L (r .before .before .before .before .before .before .before .before .before .before .before .before) in
+    counts (S l) (number l) (subject l) (amount l) (r .run-in .result) (r .run-in .ensures .0) (search needs)
 
 -- the call is run, by either way
 abbrev CalledHere : tie.Joined1 Inv-loop μ-loop → Type 0
@@ -95,12 +95,12 @@ called-here c =
     let l = L (c .before) in
     elim (c .if1 .came) [
       | inl w ↦ called-as (S l) _ (w .9) (w .8) (w .7) (w .2 .ensures)
-      | inr w ↦ called-as (S l) _ (w .14) (w .13) (w .12)
-          (called-in (S l) (number l) (subject l) (amount l) (w .7 .result) (w .7 .ensures .0) _ _ (λ e. omega (arith, w .0 .left)) (λ e. omega (arith, w .0 .left)) (w .11 .ensures) (w .7 .ensures .1))
+      | inr w ↦ called-as (S l) _ (w .18) (w .17) (w .16)
+          (called-in (S l) (number l) (subject l) (amount l) (w .11 .result) (w .11 .ensures .0) _ _ (λ e. omega (arith, w .0 .left)) (λ e. omega (arith, w .0 .left)) (w .15 .ensures) (w .11 .ensures .1))
     ]
 
 kept-here : (c : tie.Joined1 Inv-loop μ-loop) → length (c .if1 .medium) ≡ length (L (c .before) .loop .medium)
-kept-here c = elim (c .if1 .came) [ inl w ↦ ap length (w .7) ∙ w .2 .kept .1 .0 | inr w ↦ ap length (w .12) ∙ w .7 .kept .1 .1 .0 ]
+kept-here c = elim (c .if1 .came) [ inl w ↦ ap length (w .7) ∙ w .2 .kept .1 .0 | inr w ↦ ap length (w .16) ∙ w .11 .kept .1 .1 .0 ]
 
 store-requires : tie.Need-store-requires Inv-loop μ-loop
 store-requires c κs = let j = c .before in (search needs, called-small _ _ (j .if1 .reply) (called-here j .0))
@@ -150,7 +150,7 @@ run-calls-spec =
     shared-slice-read-amount
     run-change-requires
     run-in-requires
-    count-write-requires
+    count-in-requires
     store-requires
     add-at
     loop-less

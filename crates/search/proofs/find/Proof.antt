@@ -37,7 +37,7 @@ abbrev μ-search : tie.MeasureT-search
 
 -- places: the start, the outer loop's head, the test of the server and the inner loop's head
 abbrev S : tie.At-search Inv-loop μ-loop Inv-search μ-search → tie.Start Inv-loop μ-loop Inv-search μ-search
-S q = q .before .before
+S q = q .before .before .before .before .before
 
 abbrev Q : tie.After-takes Inv-loop μ-loop Inv-search μ-search → tie.At-search Inv-loop μ-loop Inv-search μ-search
 Q c = c .before .before .before .before
@@ -83,14 +83,14 @@ sub-k c = search needs
 mul-t25 : tie.Need-mul-t25 Inv-loop μ-loop Inv-search μ-search
 mul-t25 c = search needs
 
-element-copy-out-t28 : tie.Need-element-copy-out-t28 Inv-loop μ-loop Inv-search μ-search
-element-copy-out-t28 c = search needs
+shared-slice-read-t27 : tie.Need-shared-slice-read-t27 Inv-loop μ-loop Inv-search μ-search
+shared-slice-read-t27 c = search needs
 
-mul-t29 : tie.Need-mul-t29 Inv-loop μ-loop Inv-search μ-search
-mul-t29 c = search needs
+mul-t28 : tie.Need-mul-t28 Inv-loop μ-loop Inv-search μ-search
+mul-t28 c = search needs
 
-element-copy-out-t32 : tie.Need-element-copy-out-t32 Inv-loop μ-loop Inv-search μ-search
-element-copy-out-t32 c = search needs
+shared-slice-read-t30 : tie.Need-shared-slice-read-t30 Inv-loop μ-loop Inv-search μ-search
+shared-slice-read-t30 c = search needs
 
 takes-requires : tie.Need-takes-requires Inv-loop μ-loop Inv-search μ-search
 takes-requires c κs = search needs
@@ -101,12 +101,12 @@ add-opened c = search needs
 mul-j : tie.Need-mul-j Inv-loop μ-loop Inv-search μ-search
 mul-j c = search needs
 
-element-copy-out-j : tie.Need-element-copy-out-j Inv-loop μ-loop Inv-search μ-search
-element-copy-out-j c = search needs
+shared-slice-read-j : tie.Need-shared-slice-read-j Inv-loop μ-loop Inv-search μ-search
+shared-slice-read-j c = search needs
 
 -- that server has no more entries used than a server has
 used-here : (q : tie.At-search Inv-loop μ-loop Inv-search μ-search) → 0 < q .search .k → nth (column (S q .args .t2) 1) (K q) ≤ S q .args .shape .capacity
-used-here q l = S q .pre .fits (K q) (omega arith)
+used-here q l = S q .pre .1 .fits (K q) (omega arith)
 
 cast-j : tie.Need-cast-j Inv-loop μ-loop Inv-search μ-search
 cast-j c = let q = Q (c .before .before) in omega (arith, used-here q (search needs))
@@ -140,7 +140,7 @@ entry-at-requires : tie.Need-entry-at-requires Inv-loop μ-loop Inv-search μ-se
 entry-at-requires c κs =
     let q = Q (X (c .before)) in
     let u = used-here q (search needs) in
-    (S q .pre .small, omega arith, omega arith)
+    (S q .pre .1 .small, omega arith, omega arith)
 
 bears-requires : tie.Need-bears-requires Inv-loop μ-loop Inv-search μ-search
 bears-requires c κs =
@@ -148,7 +148,7 @@ bears-requires c κs =
     let q = Q (X l) in
     let a = S q .args in
     let u = used-here q (search needs) in
-    let i = each-inside (a .shape .capacity) (a .shape .count) (K q) (nth (column (a .t2) 1)) (M q) (S q .pre) (search needs) in
+    let i = each-inside (a .shape .capacity) (a .shape .count) (K q) (nth (column (a .t2) 1)) (M q) (S q .pre .1) (search needs) in
     omega (arith, c .entry-at .ensures, entry-inside (a .shape .capacity) (K q) (l .loop .j - 1) 2 (M q) i (omega arith) (omega arith))
 
 loop-less : tie.Need-loop-less Inv-loop μ-loop Inv-search μ-search
@@ -214,13 +214,13 @@ find-spec =
     search-holds
     sub-k
     mul-t25
-    element-copy-out-t28
-    mul-t29
-    element-copy-out-t32
+    shared-slice-read-t27
+    mul-t28
+    shared-slice-read-t30
     takes-requires
     add-opened
     mul-j
-    element-copy-out-j
+    shared-slice-read-j
     cast-j
     loop-holds
     search-less

@@ -22,11 +22,14 @@ enum-told : tie.Need-enum-told
 enum-told c = search needs
 
 -- the table as lent, and the rows of the call
+abbrev S : tie.After-reweight → tie.Start
+S c = c .before .before .before .before .before .before .before .before .before .before
+
 abbrev T : tie.After-reweight → Table
-T c = c .before .before .before .before .before .before .args .t1
+T c = S c .args .t1
 
 abbrev rows : tie.After-reweight → List Row
-rows c = let a = c .before .before .before .before .before .before .args in reweightRows (a .t1) (a .server) (a .weight)
+rows c = let a = S c .args in reweightRows (a .t1) (a .server) (a .weight)
 
 refused-here : (c : tie.After-check) → numberOf (c .check .given .0 .0) ≡ firstOf (rows (c .before .before))
 refused-here c = check-refused (rows (c .before .before)) (c .before .before .reweight .ensures) (c .check .given .1)

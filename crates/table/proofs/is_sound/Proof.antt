@@ -31,10 +31,10 @@ Inv-loop t2 capacity count weights used numerators denominators sum₀ i₀ sum 
 abbrev μ-loop : tie.MeasureT-loop
 μ-loop t2 capacity count weights used numerators denominators sum₀ i₀ sum i = count - i
 
-abbrev T : tie.Start Inv-loop μ-loop → Table
-T s = tableOf (s .args .shape) (s .args .t2)
+-- the table, after the columns were taken out and at the loop's head
+abbrev T : tie.After-denominators Inv-loop μ-loop → Table
+T c = let s = c .before .before .before .before in tableOf (s .args .shape) (s .args .t2)
 
--- the table at the loop's head
 abbrev TL : tie.At-loop Inv-loop μ-loop → Table
 TL l = T (l .before .before .before .before)
 
@@ -69,8 +69,8 @@ loop-holds c = (search needs, search needs, search needs, refl, refl, search nee
 mul-weight : tie.Need-mul-weight Inv-loop μ-loop
 mul-weight c = search needs
 
-element-copy-out-weight : tie.Need-element-copy-out-weight Inv-loop μ-loop
-element-copy-out-weight c = search needs
+shared-slice-read-weight : tie.Need-shared-slice-read-weight Inv-loop μ-loop
+shared-slice-read-weight c = search needs
 
 -- one server that fails
 fails : (l : tie.In-loop Inv-loop μ-loop) → serverSound (TL (l .before)) (l .before .loop .i) ≡ false → sound (TL (l .before)) ≡ false
@@ -83,8 +83,8 @@ returns-4 c = sym (fails (c .before .before) (rw (lt-leb _ _ (c .if4 .taken))))
 mul-if5 : tie.Need-mul-if5 Inv-loop μ-loop
 mul-if5 c = search needs
 
-element-copy-out-if5 : tie.Need-element-copy-out-if5 Inv-loop μ-loop
-element-copy-out-if5 c = search needs
+shared-slice-read-if5 : tie.Need-shared-slice-read-if5 Inv-loop μ-loop
+shared-slice-read-if5 c = search needs
 
 returns-5 : tie.Need-returns-5 Inv-loop μ-loop
 unfolding serverSound
@@ -98,14 +98,14 @@ add-sum c = search needs
 mul-t25 : tie.Need-mul-t25 Inv-loop μ-loop
 mul-t25 c = search needs
 
-element-copy-out-t28 : tie.Need-element-copy-out-t28 Inv-loop μ-loop
-element-copy-out-t28 c = search needs
+shared-slice-read-t27 : tie.Need-shared-slice-read-t27 Inv-loop μ-loop
+shared-slice-read-t27 c = search needs
 
-mul-t33 : tie.Need-mul-t33 Inv-loop μ-loop
-mul-t33 c = search needs
+mul-t30 : tie.Need-mul-t30 Inv-loop μ-loop
+mul-t30 c = search needs
 
-element-copy-out-t36 : tie.Need-element-copy-out-t36 Inv-loop μ-loop
-element-copy-out-t36 c = search needs
+shared-slice-read-t32 : tie.Need-shared-slice-read-t32 Inv-loop μ-loop
+shared-slice-read-t32 c = search needs
 
 read-sound-requires : tie.Need-read-sound-requires Inv-loop μ-loop
 read-sound-requires c κs = search needs
@@ -163,16 +163,16 @@ is-sound-spec =
     returns-3
     loop-holds
     mul-weight
-    element-copy-out-weight
+    shared-slice-read-weight
     returns-4
     mul-if5
-    element-copy-out-if5
+    shared-slice-read-if5
     returns-5
     add-sum
     mul-t25
-    element-copy-out-t28
-    mul-t33
-    element-copy-out-t36
+    shared-slice-read-t27
+    mul-t30
+    shared-slice-read-t32
     read-sound-requires
     returns-6
     add-i

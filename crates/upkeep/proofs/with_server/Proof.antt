@@ -40,13 +40,18 @@ abbrev T₀ : tie.Start → Table
 T₀ s = s .args .t1
 
 sum-weights-requires : tie.Need-sum-weights-requires
-sum-weights-requires c κs = sound-bounded (T₀ (c .before .before)) (sound-facts _ (c .before .before .pre .0))
-
-sum-fits : (c : tie.After-sum-weights) → c .sum-weights .result + c .before .before .before .args .weight ≤ 257 * 65536
-sum-fits c =
+sum-weights-requires c κs =
     let a = c .before .before .before in
+    sound-bounded (T₀ a) (search needs) (sound-facts _ (a .pre .0))
+
+abbrev S : tie.After-sum-weights → tie.Start
+S c = c .before .before .before .before
+
+sum-fits : (c : tie.After-sum-weights) → c .sum-weights .result + S c .args .weight ≤ 257 * 65536
+sum-fits c =
+    let a = S c in
     let s = sound-facts (T₀ a) (a .pre .0) in
-    omega (arith, c .sum-weights .ensures, total-le (weightOf (T₀ a)) 65536 (T₀ a .count) (sound-bounded (T₀ a) s .light))
+    omega (arith, c .sum-weights .ensures, total-le (weightOf (T₀ a)) 65536 (T₀ a .count) (sound-bounded (T₀ a) (search needs) s .light))
 
 add-write-p : tie.Need-add-write-p
 add-write-p c = omega (arith, sum-fits c)
@@ -83,7 +88,7 @@ add-next c = search needs
 
 returns : tie.Need-returns
 returns c =
-    let a = c .before .before .before .before in
+    let a = S (c .before) in
     let few : T₀ a .count < length (T₀ a .weights) = search needs in
     made (T₀ a) (a .args .weight) _ _ few (c .before .sum-weights .ensures) (c .write-p .ensures)
 

@@ -1,4 +1,4 @@
--- `writing::write` meets its contract: what the write on borrowed arrays answers, and the table by that answer.
+-- `writing::write` meets its contract: what the write on borrowed columns answers, and the table by that answer.
 use mathlib.Core.Path.{_∙_}
 use mathlib.Core.List.{List}
 use Prim.Native.Nat.{ℕ}
@@ -23,7 +23,7 @@ abbrev W : tie.After-slice-known2 → tie.After-write-in
 W c = c .before .before
 
 abbrev S : tie.After-write-in → tie.Start
-S c = c .before .before .before .before .before .before .before .before
+S c = c .before .before .before .before .before .before .before .before .before .before .before .before
 
 abbrev T : tie.After-write-in → Table
 T c = S c .args .t1

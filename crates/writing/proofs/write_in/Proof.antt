@@ -72,26 +72,30 @@ free c = omega (arith, facts c .free, ap (usedOf (T (W c))) (server-is c))
 array-copy-out-used : tie.Need-array-copy-out-used
 array-copy-out-used c = search needs
 
-mul-entry : tie.Need-mul-entry
-mul-entry c = let i = facts (c .before) .inside in let l = there (c .before) in search needs
+-- where its used entries are known
+abbrev P : tie.After-shared-slice-known → tie.After-plan2
+P c = c .before .before .before
 
-element-copy-out-entry : tie.Need-element-copy-out-entry
-element-copy-out-entry c = let i = facts (c .before) .inside in let l = there (c .before) in search needs
+mul-entry : tie.Need-mul-entry
+mul-entry c = let p = c .before .before in let i = facts p .inside in let l = there p in search needs
+
+shared-slice-read-entry : tie.Need-shared-slice-read-entry
+shared-slice-read-entry c = let p = P c in let i = facts p .inside in let l = there p in search needs
 
 cast-entry : tie.Need-cast-entry
-cast-entry c = let i = facts (c .before .before) .inside in omega (arith, free (c .before .before))
+cast-entry c = let i = facts (P c) .inside in omega (arith, free (P c))
 
 cast-entry-at : tie.Need-cast-entry-at
 cast-entry-at c = search needs
 
 entry-at-requires : tie.Need-entry-at-requires
-entry-at-requires c κs = let p = c .before .before in let i = facts p .inside in omega (arith, there p, free p)
+entry-at-requires c κs = let p = P c in let i = facts p .inside in omega (arith, there p, free p)
 
 -- the entry's words are there
 enter-requires : tie.Need-enter-requires
 enter-requires c κs =
     let e = c .before in
-    let p = e .before .before .before in
+    let p = P (e .before) in
     let t = T (W p) in
     let i = facts p .inside in
     (omega (arith, e .entry-at .ensures, entry-in (t .capacity) (t .count) (server p) (usedOf t (server p)) 2 (there p) (free p) (omega arith)), facts p .small)
@@ -99,7 +103,8 @@ enter-requires c κs =
 invalidate-requires : tie.Need-invalidate-requires
 invalidate-requires c κs =
     let e = c .before .before .before in
-    (rw (e .enter .ensures) (inside-set _ _ _ _ _ _ _ _ (facts (e .before .before .before .before .before) .inside)), search needs)
+    let p = P (e .before .before .before) in
+    (S (W p) .pre, (rw (e .enter .ensures) (inside-set _ _ _ _ _ _ _ _ (facts p .inside)), search needs))
 
 same-length : tie.Need-same-length
 same-length c = search needs
@@ -119,7 +124,7 @@ returns-2 c =
     let i = c .before .before in
     let e = i .before .before .before .before in
     let a = e .before .before in
-    let p = a .before .before .before in
+    let p = P (a .before) in
     let w = W p in
     written (T w) (M w) (S w .args .id) (S w .args .value) (accepted-here p) (server p) (a .entry-at .result) _ _ (server-is p) (a .entry-at .ensures)
     (rw (e .enter .ensures) at (i .invalidate .ensures .0)) (rw (e .enter .ensures) at (i .invalidate .ensures .1))
@@ -133,7 +138,7 @@ write-in-spec =
     enum-known-plan-2
     array-copy-out-used
     mul-entry
-    element-copy-out-entry
+    shared-slice-read-entry
     cast-entry
     cast-entry-at
     entry-at-requires

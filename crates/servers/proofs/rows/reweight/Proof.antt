@@ -45,24 +45,28 @@ array-copy-out-used : tie.Need-array-copy-out-used
 array-copy-out-used c = search needs
 
 mul-if4 : tie.Need-mul-if4
-mul-if4 c = let s = facts (c .before .before) in search needs
+mul-if4 c = let s = facts (c .before .before .before) in search needs
 
-element-copy-out-if4 : tie.Need-element-copy-out-if4
-element-copy-out-if4 c = let s = facts (c .before .before) in search needs
+-- where the table was found sound
+abbrev E : tie.After-shared-slice-known → tie.Else1
+E c = c .before .before .before .before
+
+shared-slice-read-if4 : tie.Need-shared-slice-read-if4
+shared-slice-read-if4 c = let s = facts (E c) in search needs
 
 sub-if4 : tie.Need-sub-if4
-sub-if4 c = facts (c .before .before .before) .server (c .before .before .before .before .before .args .server) (search needs) .fits
+sub-if4 c = facts (E c) .server (E c .before .before .args .server) (search needs) .fits
 
 returns-4 : tie.Need-returns-4
 unfolding checkNumber numberOf reweightRows firstOf
 returns-4 c =
-    let e = c .before .before in
+    let e = c .before .before .before in
     rw (is-sound (e .before .before), le-ltb _ _ (e .before .if2 .left), lt-leb _ _ (e .if3 .left), lt-ltb _ _ (c .if4 .taken))
 
 returns-5 : tie.Need-returns-5
 unfolding checkNumber reweightRows firstOf
 returns-5 c =
-    let e = c .before .before in
+    let e = c .before .before .before in
     rw (is-sound (e .before .before), le-ltb _ _ (e .before .if2 .left), lt-leb _ _ (e .if3 .left), le-ltb _ _ (c .if4 .left))
 
 pub reweight-spec : {M : Type 1} → statement M
@@ -75,7 +79,7 @@ reweight-spec =
     returns-3
     array-copy-out-used
     mul-if4
-    element-copy-out-if4
+    shared-slice-read-if4
     sub-if4
     returns-4
     returns-5)
