@@ -7,7 +7,7 @@ use crate::archive::{Table, BLANK};
 use crate::calls::{self, Call, INVALIDATED, REFUSAL, REPLY_WORDS, TABLE_WORDS};
 use crate::ledger::Ledger;
 use crate::placement::{self, MAX_SERVERS};
-use crate::proved;
+use ticket_archive::functions as proved;
 
 /// Where two sides differ, in words for the reader.
 pub type Difference = String;

@@ -12,7 +12,7 @@ mod lists;
 #[cfg(test)]
 mod paper_tests;
 mod placement;
-mod proved;
+
 mod random;
 mod scenes;
 mod suites;

@@ -3,7 +3,7 @@
 use crate::archive::{Table, BLANK, CONTENT_RANGE};
 use crate::calls::{self, encode, Call, REFUSAL, REPLY_WORDS};
 use crate::placement::{self, write_server, MAX_CAPACITY};
-use crate::proved;
+use ticket_archive::functions as proved;
 use crate::random::Random;
 
 #[derive(Clone, Copy, PartialEq, Eq)]

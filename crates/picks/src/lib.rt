@@ -1,4 +1,4 @@
-// The write servers of many ids over the same weights, for other languages to call.
+// The write servers of many ids over the same weights.
 ghost use mathlib.Core.Path.{_≡_};
 ghost use lib.ListN.{length};
 ghost use Rattle.lists.specs.Below.{nth, setBelow};
@@ -29,8 +29,7 @@ fn are_bounded(weights: &[u32]) -> bool
 
 // The write servers of many ids over the same weights: as many as both slices have room for, and none where there is no
 // weight, more than 256 or one above 65,536.
-#[no_mangle]
-pub extern "C" fn picks(weights: &[u32], ids: &[u32], servers: &mut [u32]) -> usize
+pub fn picks(weights: &[u32], ids: &[u32], servers: &mut [u32]) -> usize
     ensures number { λ r. ⌜ r ≡ picksOf (now (weights .entry)) (now (ids .entry)) (now (servers .entry)) ⌝ }
     ensures servers { λ r. ⌜ now (servers .exit) ≡ setBelow (λ i. writeServer (nth (now (weights .entry))) (length (now (weights .entry))) (nth (now (ids .entry)) i)) r (now (servers .entry)) ⌝ }
 {

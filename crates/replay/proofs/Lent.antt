@@ -2,6 +2,7 @@
 -- Assumes nothing.
 use Prim.Native.Nat.{ℕ, _≤_, _<_}
 use mathlib.Core.Path.{_≡_, refl, ap, _∙_}
+use mathlib.Core.Option.{Option, none, some}
 use mathlib.Core.List.{List, [], _∷_}
 use native.Mathlib.Omega.{arith}
 use lib.ListN.{length}
@@ -17,11 +18,12 @@ use Rattle.servers.proofs.Accepted.{addServer-accepted}
 use Rattle.history.specs.Call.{Call, addServer, reweight, write, delete, lookup, batch}
 use Rattle.history.specs.Machine.{State, next, after}
 use Rattle.encoding.specs.Encoding.{roomFor}
+use Rattle.encoding.specs.ByNumber.{nextBy}
 use Rattle.replay.specs.Replay.{callsBelow, withReplies, replyAt}
 use Rattle.replay.specs.Lent.{lent, resumes}
 
 -- a count below 2^32
-abbrev Fits : Table → Type 0
+abbrev pub Fits : Table → Type 0
 Fits t = t .count < 4294967296
 
 -- a call leaves it so: it changes it only where the table is sound, and so the count small
@@ -34,6 +36,11 @@ next-count S (write id value) l = settle-either (writeRows (S .table) (S .medium
 next-count S (delete id) l = l
 next-count S (lookup id) l = l
 next-count S (batch ids) l = l
+
+pub call-count : (S : State) (o : Option Call) → Fits (S .table) → Fits (nextBy S o .table)
+unfolding nextBy
+call-count S none l = l
+call-count S (some c) l = next-count S c l
 
 after-count : (calls : List Call) (S : State) → Fits (S .table) → Fits (after S calls .table)
 unfolding after

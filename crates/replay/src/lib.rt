@@ -102,13 +102,7 @@ pub fn run_call(table: Table, medium: &mut [u32], number: u32, subject: u32, amo
 }
 
 // Runs as many of the encoded calls as both slices have room for on a started table, and answers their number.
-#[no_mangle]
-pub extern "C" fn replay(
-    capacity: u32,
-    calls: &[u32],
-    medium: &mut [u32],
-    replies: &mut [u32],
-) -> usize
+pub fn replay(capacity: u32, calls: &[u32], medium: &mut [u32], replies: &mut [u32]) -> usize
     ensures number { λ r. ⌜ r ≡ runs capacity (now (calls .entry)) (now (replies .entry)) ⌝ }
     ensures words { λ r. ⌜ now (medium .exit) ≡ after (started capacity (now (medium .entry))) (callsBelow (now (calls .entry)) r) .medium ⌝ }
     ensures replies { λ r. ⌜ now (replies .exit) ≡ withReplies (replyAt (started capacity (now (medium .entry))) (now (calls .entry))) r (now (replies .entry)) ⌝ }
@@ -125,13 +119,7 @@ pub extern "C" fn replay(
 }
 
 // Runs encoded calls as replay does, on a table lent as 1,026 words. Where there are fewer, it runs none.
-#[no_mangle]
-pub extern "C" fn resume(
-    table: &mut [u32],
-    calls: &[u32],
-    medium: &mut [u32],
-    replies: &mut [u32],
-) -> usize
+pub fn resume(table: &mut [u32], calls: &[u32], medium: &mut [u32], replies: &mut [u32]) -> usize
     ensures number { λ r. ⌜ r ≡ resumes (now (table .entry)) (now (calls .entry)) (now (replies .entry)) ⌝ }
     ensures table { λ r. ⌜ now (table .exit) ≡ withTable (now (table .entry)) (after (lent (now (table .entry)) (now (medium .entry))) (callsBelow (now (calls .entry)) r) .table) ⌝ }
     ensures words { λ r. ⌜ now (medium .exit) ≡ after (lent (now (table .entry)) (now (medium .entry))) (callsBelow (now (calls .entry)) r) .medium ⌝ }

@@ -10,7 +10,13 @@ use limits::MAX_CAPACITY;
 use limits::MAX_SERVERS;
 use limits::MAX_SUM;
 use placement::Fraction;
+pub use words::CAPACITY_OFFSET;
+pub use words::COUNT_OFFSET;
+pub use words::DENOMINATORS_OFFSET;
+pub use words::NUMERATORS_OFFSET;
 pub use words::TABLE_LENGTH;
+pub use words::USED_OFFSET;
+pub use words::WEIGHTS_OFFSET;
 pub use words::store_table;
 pub use words::table_from;
 

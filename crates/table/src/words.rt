@@ -12,17 +12,17 @@ use limits::MAX_SERVERS;
 // How many words a table has, where each of its numbers stands and where each of its columns begins.
 pub const TABLE_LENGTH: usize = 1026;
 
-const CAPACITY_OFFSET: usize = 0;
+pub const CAPACITY_OFFSET: usize = 0;
 
-const COUNT_OFFSET: usize = 1;
+pub const COUNT_OFFSET: usize = 1;
 
-const WEIGHTS_OFFSET: usize = 2;
+pub const WEIGHTS_OFFSET: usize = 2;
 
-const USED_OFFSET: usize = 258;
+pub const USED_OFFSET: usize = 258;
 
-const NUMERATORS_OFFSET: usize = 514;
+pub const NUMERATORS_OFFSET: usize = 514;
 
-const DENOMINATORS_OFFSET: usize = 770;
+pub const DENOMINATORS_OFFSET: usize = 770;
 
 // The table lent as words.
 pub fn table_from(words: &[u32]) -> Table

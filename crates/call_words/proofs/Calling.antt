@@ -1,0 +1,91 @@
+-- What a call ensures, by whether the runs are long enough.
+-- Assumes nothing.
+use Prim.Native.Nat.{ℕ, _≤_, _<_}
+use mathlib.Core.Path.{_≡_, refl, ap, _∙_}
+use mathlib.Core.Logic.{_≢_}
+use mathlib.Core.Bool.{false}
+use mathlib.Core.List.{List}
+use mathlib.Core.Option.{Option}
+use native.Mathlib.Omega.{arith}
+use lib.ListN.{length}
+use borrow.Author.Tests.{le-leb, lt-leb}
+use Rattle.lists.specs.Below.{nth}
+use Rattle.table.specs.declared.Table.{Table}
+use Rattle.table.specs.Words.{usedOffset, tableLength, columnFrom, tableFrom, withTable}
+use Rattle.replies.specs.Number.{addServerNumber, reweightNumber, writeNumber}
+use Rattle.replies.specs.declared.Reply.{Reply}
+use Rattle.history.specs.Call.{Call}
+use Rattle.history.specs.Machine.{State}
+use Rattle.encoding.specs.Encoding.{callLength, replyLength, withReplyAt}
+use Rattle.encoding.specs.ByNumber.{callOf, callAt, tooShort, replyTo, nextBy, usedAfter}
+use Rattle.encoding.proofs.Calling.{counts, called-in}
+use Rattle.replay.specs.Lent.{lent}
+use Rattle.replay.proofs.Lent.{call-count}
+use Rattle.call_words.specs.CallWords.{withColumn, fitsCall, called}
+use Rattle.call_words.proofs.Columns.{used-stored, length-column}
+
+-- what `run` ensures
+abbrev pub Ran : List ℕ → List ℕ → Option Call → Reply → List ℕ → List ℕ → Type 0
+Ran words m o r words′ m′ = (r ≡ replyTo (lent words m) o) × ((words′ ≡ withTable words (nextBy (lent words m) o .table)) × (m′ ≡ nextBy (lent words m) o .medium))
+
+-- by a table by value
+pub by-value : (words m : List ℕ) (o : Option Call) (r : Reply) (t t′ : Table) (words′ m′ : List ℕ) → t ≡ tableFrom words
+    → r ≡ replyTo (record { table = t; medium = m }) o → t′ ≡ nextBy (record { table = t; medium = m }) o .table → m′ ≡ nextBy (record { table = t; medium = m }) o .medium
+    → words′ ≡ withTable words t′ → Ran words m o r words′ m′
+by-value words m o r t t′ words′ m′ e a b c d = (rw e at a, (d ∙ ap (withTable words) (rw e at b), rw e at c))
+
+pub count-fits : (S : State) (o : Option Call) (t : Table) → t ≡ nextBy S o .table → S .table .count < 4294967296 → t .count < 4294967296
+count-fits S o t e l = omega (arith, call-count S o l, ap (λ (u : Table). u .count) e)
+
+-- a call but add_server and reweight, whose reply is r: where its entry is counted, and the words after it
+module _ (words m : List ℕ) (number subject amount : ℕ) (l : tableLength ≤ length words) (r : Reply) (e : r ≡ replyTo (lent words m) (callOf number subject amount)) where
+  pub counts-there : number ≡ writeNumber → r .refusal ≡ 0 → (r .server < 256) × (nth (columnFrom words usedOffset) (r .server) < 65536)
+  unfolding tableFrom
+  counts-there d z =
+      let long = length-column words usedOffset (omega arith) in
+      let c = counts (lent words m) number subject amount r e long d z in
+      (omega (arith, c .0, long), c .1)
+
+  pub counted-words : number ≢ addServerNumber → number ≢ reweightNumber
+      → withColumn words usedOffset (usedAfter (columnFrom words usedOffset) number r) ≡ withTable words (nextBy (lent words m) (callOf number subject amount) .table)
+  unfolding tableFrom
+  counted-words a b =
+      let used = usedAfter (columnFrom words usedOffset) number r in
+      used-stored words used l
+      ∙ ap (withTable words) (called-in (lent words m) number subject amount r e used _ a b refl refl .1 .0)
+
+-- what `call` ensures where it answers n
+abbrev pub Done : List ℕ → List ℕ → List ℕ → List ℕ → ℕ → List ℕ → List ℕ → List ℕ → Type 0
+Done table m call reply n table′ m′ reply′ =
+    (n ≡ called table m call reply .number)
+    × ((table′ ≡ called table m call reply .table)
+    × ((m′ ≡ called table m call reply .medium)
+    × (reply′ ≡ called table m call reply .reply)))
+
+module _ (table m call reply : List ℕ) where
+  call-short : fitsCall table call reply ≡ false → Done table m call reply tooShort table m reply
+  unfolding called
+  call-short e = rw e (refl, (refl, (refl, refl)))
+
+  pub table-short : length table < tableLength → Done table m call reply tooShort table m reply
+  unfolding fitsCall
+  table-short l = call-short (rw (lt-leb _ _ l))
+
+  pub words-short : tableLength ≤ length table → length call < callLength → Done table m call reply tooShort table m reply
+  unfolding fitsCall
+  words-short a l = call-short (rw (le-leb _ _ a, lt-leb _ _ l))
+
+  pub reply-short : tableLength ≤ length table → callLength ≤ length call → length reply < replyLength → Done table m call reply tooShort table m reply
+  unfolding fitsCall
+  reply-short a b l = call-short (rw (le-leb _ _ a, le-leb _ _ b, lt-leb _ _ l))
+
+  pub call-done : tableLength ≤ length table → callLength ≤ length call → replyLength ≤ length reply
+      → (r : Reply) (table′ m′ reply′ : List ℕ)
+      → r ≡ replyTo (lent table m) (callAt call 0)
+      → table′ ≡ withTable table (nextBy (lent table m) (callAt call 0) .table)
+      → m′ ≡ nextBy (lent table m) (callAt call 0) .medium
+      → reply′ ≡ withReplyAt reply 0 r
+      → Done table m call reply (r .refusal) table′ m′ reply′
+  unfolding called fitsCall
+  call-done a b d r table′ m′ reply′ e f g h =
+      rw (le-leb _ _ a, le-leb _ _ b, le-leb _ _ d) (ap (λ (x : Reply). x .refusal) e, (f, (g, h ∙ ap (withReplyAt reply 0) e)))

@@ -1,0 +1,101 @@
+// One call on a table lent as words. Its columns are parts of the words, so that only add_server and reweight copy them.
+ghost use mathlib.Core.Path.{_≡_};
+ghost use mathlib.Core.Logic.{_≢_};
+ghost use Prim.Native.Nat.{_<_, _≤_};
+ghost use lib.ListN.{length};
+ghost use Rattle.limits.specs.Limits.{maxServers, maxCapacity};
+ghost use Rattle.lists.specs.Below.{nth};
+ghost use Rattle.table.specs.Words.{usedOffset, tableLength, columnFrom, withTable};
+ghost use Rattle.replies.specs.Number.{addServerNumber, reweightNumber, writeNumber};
+ghost use Rattle.encoding.specs.ByNumber.{callOf, replyTo, nextBy, usedAfter};
+ghost use Rattle.replay.specs.Lent.{lent};
+ghost use Rattle.call_words.specs.CallWords.{withColumn, called};
+use encoding::AMOUNT_OFFSET;
+use encoding::CALL_LENGTH;
+use encoding::NUMBER_OFFSET;
+use encoding::REPLY_LENGTH;
+use encoding::SUBJECT_OFFSET;
+use replies::Reply;
+use replies::WRITE;
+use table::CAPACITY_OFFSET;
+use table::COUNT_OFFSET;
+use table::Columns;
+use table::DENOMINATORS_OFFSET;
+use table::NUMERATORS_OFFSET;
+use table::Shape;
+use table::TABLE_LENGTH;
+use table::USED_OFFSET;
+use table::WEIGHTS_OFFSET;
+
+// Runs a call but add_server and reweight. `count` then makes the table after it.
+fn run_on(words: &[u32], medium: &mut [u32], number: u32, subject: u32, amount: u32) -> Reply
+    requires { ⌜ tableLength ≤ length (now words) ⌝ }
+    requires { ⌜ (number ≢ addServerNumber) × (number ≢ reweightNumber) ⌝ }
+    ensures reply { λ r. ⌜ r ≡ replyTo (lent (now (words .entry)) (now (medium .entry))) (callOf number subject amount) ⌝ }
+    ensures medium { λ _. ⌜ now (medium .exit) ≡ nextBy (lent (now (words .entry)) (now (medium .entry))) (callOf number subject amount) .medium ⌝ }
+{
+    let shape = Shape {
+        capacity: words[CAPACITY_OFFSET],
+        count: words[COUNT_OFFSET] as usize,
+    };
+    let columns: Columns = [
+        &words[WEIGHTS_OFFSET..USED_OFFSET],
+        &words[USED_OFFSET..NUMERATORS_OFFSET],
+        &words[NUMERATORS_OFFSET..DENOMINATORS_OFFSET],
+        &words[DENOMINATORS_OFFSET..TABLE_LENGTH],
+    ];
+    encoding::run_in(shape, columns, medium, number, subject, amount)
+}
+
+// Counts the entry of an accepted write as used on its server.
+fn count(words: &mut [u32], number: u32, reply: Reply)
+    requires { ⌜ tableLength ≤ length (now words) ⌝ }
+    requires { ⌜ (number ≡ writeNumber → reply .refusal ≡ 0 → (reply .server < maxServers) × (nth (columnFrom (now words) usedOffset) (reply .server) < maxCapacity)) ⌝ }
+    ensures { λ _. ⌜ now (words .exit) ≡ withColumn (now (words .entry)) usedOffset (usedAfter (columnFrom (now (words .entry)) usedOffset) number reply) ⌝ }
+{
+    encoding::count_write(&mut words[USED_OFFSET..NUMERATORS_OFFSET], number, reply);
+}
+
+// Runs a call by its number on a table lent as words.
+fn run(table: &mut [u32], medium: &mut [u32], number: u32, subject: u32, amount: u32) -> Reply
+    requires { ⌜ tableLength ≤ length (now table) ⌝ }
+    ensures reply { λ r. ⌜ r ≡ replyTo (lent (now (table .entry)) (now (medium .entry))) (callOf number subject amount) ⌝ }
+    ensures table { λ _. ⌜ now (table .exit) ≡ withTable (now (table .entry)) (nextBy (lent (now (table .entry)) (now (medium .entry))) (callOf number subject amount) .table) ⌝ }
+    ensures medium { λ _. ⌜ now (medium .exit) ≡ nextBy (lent (now (table .entry)) (now (medium .entry))) (callOf number subject amount) .medium ⌝ }
+{
+    if number < WRITE {
+        let ran = encoding::run_change(table::table_from(table), medium, number, subject, amount);
+        table::store_table(table, ran.table);
+        return ran.reply;
+    }
+    let reply = run_on(table, medium, number, subject, amount);
+    count(table, number, reply);
+    reply
+}
+
+// Runs the call at the front of its words, stores its reply and answers its refusal number.
+pub fn call(table: &mut [u32], medium: &mut [u32], call: &[u32], reply: &mut [u32]) -> u32
+    ensures number { λ r. ⌜ r ≡ called (now (table .entry)) (now (medium .entry)) (now (call .entry)) (now (reply .entry)) .number ⌝ }
+    ensures table { λ _. ⌜ now (table .exit) ≡ called (now (table .entry)) (now (medium .entry)) (now (call .entry)) (now (reply .entry)) .table ⌝ }
+    ensures medium { λ _. ⌜ now (medium .exit) ≡ called (now (table .entry)) (now (medium .entry)) (now (call .entry)) (now (reply .entry)) .medium ⌝ }
+    ensures reply { λ _. ⌜ now (reply .exit) ≡ called (now (table .entry)) (now (medium .entry)) (now (call .entry)) (now (reply .entry)) .reply ⌝ }
+{
+    if table.len() < TABLE_LENGTH {
+        return encoding::TOO_SHORT;
+    }
+    if call.len() < CALL_LENGTH {
+        return encoding::TOO_SHORT;
+    }
+    if reply.len() < REPLY_LENGTH {
+        return encoding::TOO_SHORT;
+    }
+    let told = run(
+        table,
+        medium,
+        call[NUMBER_OFFSET],
+        call[SUBJECT_OFFSET],
+        call[AMOUNT_OFFSET],
+    );
+    encoding::store(reply, 0, told);
+    told.refusal
+}

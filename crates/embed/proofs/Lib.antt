@@ -1,0 +1,2 @@
+mod Starting
+pub mod Sequence

@@ -1,0 +1,121 @@
+-- Calls made one after another are a list of calls: table and medium after them are those after the list. So what the third demand
+-- says of every list of calls, it says of every sequence of calls that a caller makes on a started table over blank words.
+-- Assumes nothing.
+use Prim.Native.Nat.{ℕ, _≤_}
+use mathlib.Core.Path.{_≡_, refl, sym, ap, _∙_}
+use mathlib.Core.Bool.{true, false}
+use mathlib.Core.List.{List, [], _∷_}
+use mathlib.Core.Option.{Option, none, some}
+use native.Mathlib.Omega.{arith}
+use lib.ListN.{length, replicate, length-append, length-drop}
+use lib.Dec.{leb}
+use borrow.Author.Tests.{le-leb, le-ltb}
+use Rattle.lists.proofs.Tests.{byBool}
+use Rattle.medium.specs.Word.{blank}
+use Rattle.table.specs.declared.Table.{Table}
+use Rattle.table.specs.Words.{tableLength, tableFrom, wordsOf, withTable}
+use Rattle.table.proofs.Soundness.{Arrays, empty-arrays}
+use Rattle.table.proofs.Lent.{stored-lent}
+use Rattle.upkeep.proofs.Upkeep.{withServer-arrays, withWeight-arrays, withEntry-arrays}
+use Rattle.replies.proofs.Refusals.{settle-either}
+use Rattle.planning.specs.WriteRows.{target, writeRows}
+use Rattle.writing.specs.Writing.{writeTable}
+use Rattle.servers.specs.Servers.{startRows, startTable, addServerRows, addServerTable, reweightRows, reweightTable}
+use Rattle.history.specs.Call.{Call, addServer, reweight, write, delete, lookup, batch}
+use Rattle.history.specs.Machine.{State, next, after, begin}
+use Rattle.encoding.specs.Encoding.{callLength}
+use Rattle.encoding.specs.ByNumber.{callAt, nextBy}
+use Rattle.replay.specs.Lent.{lent}
+use Rattle.call_words.specs.CallWords.{fitsCall, called}
+use Rattle.call_words.proofs.Columns.{length-column}
+use Rattle.embed.specs.Sequence.{Runs, unanswered, afterCalls, callIn, joined, callsOf}
+
+-- a table lent as words has whole arrays, and a call keeps them so
+lent-arrays : (words : List ℕ) → tableLength ≤ length words → Arrays (tableFrom words)
+unfolding tableFrom
+lent-arrays words l = record {
+  weights = length-column words 2 (omega arith);
+  used = length-column words 258 (omega arith);
+  numerators = length-column words 514 (omega arith);
+  denominators = length-column words 770 (omega arith);
+}
+
+next-arrays : (S : State) (c : Call) → Arrays (S .table) → Arrays (next S c .table)
+unfolding next addServerTable reweightTable writeTable
+next-arrays S (addServer weight) a = settle-either (addServerRows (S .table) (S .medium) weight) _ _ Arrays (λ _. withServer-arrays (S .table) weight a) a
+next-arrays S (reweight server weight) a = settle-either (reweightRows (S .table) server weight) _ _ Arrays (λ _. withWeight-arrays (S .table) server weight a) a
+next-arrays S (write id value) a = settle-either (writeRows (S .table) (S .medium) id value) _ _ Arrays (λ _. withEntry-arrays (S .table) (target (S .table) id) a) a
+next-arrays S (delete id) a = a
+next-arrays S (lookup id) a = a
+next-arrays S (batch ids) a = a
+
+call-arrays : (S : State) (o : Option Call) → Arrays (S .table) → Arrays (nextBy S o .table)
+unfolding nextBy
+call-arrays S none a = a
+call-arrays S (some c) a = next-arrays S c a
+
+-- to store a table changes no length
+length-stored : (words : List ℕ) (t : Table) → tableLength ≤ length words → Arrays t → length (withTable words t) ≡ length words
+unfolding withTable wordsOf
+length-stored words t l a =
+    rw (le-ltb (length words) tableLength l)
+    (simp length-append (omega (arith, a .weights, a .used, a .numerators, a .denominators, length-drop tableLength words)))
+
+-- one call
+module _ (R : Runs) (call : List ℕ) (l : tableLength ≤ length (R .table)) where
+  abbrev S : State
+  S = lent (R .table) (R .medium)
+
+  -- the runs after it
+  abbrev R′ : Runs
+  R′ = let done = called (R .table) (R .medium) call unanswered in record { table = done .table; medium = done .medium }
+
+  made : leb callLength (length call) ≡ true → (R′ .table ≡ withTable (R .table) (nextBy S (callAt call 0) .table)) × (R′ .medium ≡ nextBy S (callAt call 0) .medium)
+  unfolding called fitsCall
+  made e = rw (le-leb tableLength (length (R .table)) l, e) (refl, refl)
+
+  refused : leb callLength (length call) ≡ false → (R′ .table ≡ R .table) × (R′ .medium ≡ R .medium)
+  unfolding called fitsCall
+  refused e = rw (le-leb tableLength (length (R .table)) l, e) (refl, refl)
+
+  one-call : (lent (R′ .table) (R′ .medium) ≡ nextBy S (callIn call)) × (tableLength ≤ length (R′ .table))
+  unfolding callIn nextBy
+  one-call = byBool (leb callLength (length call))
+      (λ e.
+      let d = made e in
+      let a = call-arrays S (callAt call 0) (lent-arrays (R .table) l) in
+      let t : tableFrom (R′ .table) ≡ nextBy S (callAt call 0) .table = ap tableFrom (d .0) ∙ stored-lent (R .table) _ l a in
+      rw e ((λ i. record { table = t i; medium = d .1 i }), omega (arith, ap length (d .0), length-stored (R .table) _ l a)))
+      (λ e.
+      let d = refused e in
+      rw e ((λ i. record { table = ap tableFrom (d .0) i; medium = d .1 i }), omega (arith, ap length (d .0))))
+
+after-joined : (S : State) (o : Option Call) (calls : List Call) → after S (joined o calls) ≡ after (nextBy S o) calls
+unfolding after joined nextBy
+after-joined S none calls = refl
+after-joined S (some c) calls = refl
+
+-- all of them
+pub sequence : (calls : List (List ℕ)) (R : Runs) → tableLength ≤ length (R .table)
+    → lent (afterCalls R calls .table) (afterCalls R calls .medium) ≡ after (lent (R .table) (R .medium)) (callsOf calls)
+unfolding afterCalls callsOf after
+sequence [] R l = refl
+sequence (call ∷ calls) R l =
+    let o = one-call R call l in
+    sequence calls (R′ R call l) (o .1)
+    ∙ ap (λ (S : State). after S (callsOf calls)) (o .0)
+    ∙ sym (after-joined (lent (R .table) (R .medium)) (callIn call) (callsOf calls))
+
+start-arrays : (capacity : ℕ) → Arrays (startTable capacity)
+unfolding startTable
+start-arrays capacity = settle-either (startRows capacity) _ _ Arrays (λ _. empty-arrays capacity) (empty-arrays 0)
+
+-- from a start over n blank words: the state that the third demand speaks of
+pub sequence-started : (capacity n : ℕ) (words : List ℕ) → tableLength ≤ length words → (calls : List (List ℕ))
+    → let R : Runs = record { table = withTable words (startTable capacity); medium = replicate n blank } in
+    lent (afterCalls R calls .table) (afterCalls R calls .medium) ≡ after (begin capacity n) (callsOf calls)
+unfolding begin
+sequence-started capacity n words l calls =
+    let a = start-arrays capacity in
+    sequence calls _ (omega (arith, length-stored words (startTable capacity) l a))
+    ∙ ap (λ (t : Table). after (record { table = t; medium = replicate n blank }) (callsOf calls)) (stored-lent words (startTable capacity) l a)

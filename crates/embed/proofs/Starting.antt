@@ -1,0 +1,33 @@
+-- What a start ensures, by whether its words are enough for a table.
+-- Assumes nothing.
+use Prim.Native.Nat.{ℕ, _≤_, _<_}
+use mathlib.Core.Path.{_≡_, ap, _∙_}
+use mathlib.Core.List.{List}
+use native.Mathlib.Omega.{arith}
+use lib.ListN.{length}
+use borrow.Author.Tests.{le-leb, lt-leb, lt-ltb}
+use Rattle.table.specs.declared.Table.{Table}
+use Rattle.table.specs.Words.{tableLength, withTable}
+use Rattle.replies.specs.declared.Reply.{Reply}
+use Rattle.replies.proofs.Refusals.{settle-either}
+use Rattle.servers.specs.Servers.{startRows, startReply, startTable}
+use Rattle.encoding.specs.ByNumber.{tooShort}
+use Rattle.embed.specs.Embed.{startNumber}
+
+pub start-count : (capacity : ℕ) (t : Table) → t ≡ startTable capacity → t .count < 4294967296
+unfolding startTable
+start-count capacity t e = rw e (settle-either (startRows capacity) _ _ (λ (u : Table). u .count < 4294967296) (λ _. omega arith) (omega arith))
+
+-- what `archive_start` ensures where it answers n
+abbrev pub Started : ℕ → List ℕ → ℕ → List ℕ → Type 0
+Started capacity words n words′ = (n ≡ startNumber capacity words) × (words′ ≡ withTable words (startTable capacity))
+
+module _ (capacity : ℕ) (words : List ℕ) where
+  pub start-short : length words < tableLength → Started capacity words tooShort words
+  unfolding startNumber withTable
+  start-short l = (rw (lt-leb _ _ l), rw (lt-ltb _ _ l))
+
+  pub start-stored : tableLength ≤ length words → (r : Reply) (t : Table) (words′ : List ℕ) → r ≡ startReply capacity → t ≡ startTable capacity → words′ ≡ withTable words t
+      → Started capacity words (r .refusal) words′
+  unfolding startNumber
+  start-stored l r t words′ e f g = (ap (λ (x : Reply). x .refusal) e ∙ rw (le-leb _ _ l), rw f at g)

@@ -1,0 +1,123 @@
+// The archive for other languages: numbers and runs of words, and no `requires`. include/archive.h says the same to a C
+// programmer. A run that is too short gets a number that no call gives, and then every run is left as lent.
+ghost use mathlib.Core.Path.{_≡_};
+ghost use lib.ListN.{length};
+ghost use Rattle.lists.specs.Below.{nth, setBelow};
+ghost use Rattle.placement.specs.Rule.{writeServer};
+ghost use Rattle.picks.specs.Picks.{picksOf};
+ghost use Rattle.table.specs.Words.{tableLength, withTable};
+ghost use Rattle.servers.specs.Servers.{startTable};
+ghost use Rattle.history.specs.Machine.{after};
+ghost use Rattle.replay.specs.Replay.{callsBelow, withReplies, runs, started, replyAt, LedgerWords};
+ghost use Rattle.replay.specs.Lent.{lent, resumes};
+ghost use Rattle.call_words.specs.CallWords.{called};
+ghost use Rattle.batch_words.specs.BatchWords.{calledBatch};
+ghost use Rattle.embed.specs.Embed.{version, startNumber};
+
+// The version of the interface: it grows when a signature or an encoding changes.
+const VERSION: u32 = 1;
+
+#[no_mangle]
+pub extern "C" fn archive_abi() -> u32
+    ensures { λ r. ⌜ r ≡ version ⌝ }
+{
+    VERSION
+}
+
+#[no_mangle]
+pub extern "C" fn archive_table_words() -> usize
+    ensures { λ r. ⌜ r ≡ tableLength ⌝ }
+{
+    table::TABLE_LENGTH
+}
+
+// Stores a table of no server, or of all zeros where the capacity is refused.
+#[no_mangle]
+pub extern "C" fn archive_start(capacity: u32, table: &mut [u32]) -> u32
+    ensures number { λ r. ⌜ r ≡ startNumber capacity (now (table .entry)) ⌝ }
+    ensures table { λ _. ⌜ now (table .exit) ≡ withTable (now (table .entry)) (startTable capacity) ⌝ }
+{
+    if table.len() < table::TABLE_LENGTH {
+        return encoding::TOO_SHORT;
+    }
+    let begun = servers::start(capacity);
+    let answer = begun.answer;
+    let reply = replies::start_reply(answer);
+    table::store_table(table, begun.table);
+    reply.refusal
+}
+
+// Runs the call at the front of its words, stores its reply and answers its refusal number.
+#[no_mangle]
+pub extern "C" fn archive_call(
+    table: &mut [u32],
+    medium: &mut [u32],
+    call: &[u32],
+    reply: &mut [u32],
+) -> u32
+    ensures number { λ r. ⌜ r ≡ called (now (table .entry)) (now (medium .entry)) (now (call .entry)) (now (reply .entry)) .number ⌝ }
+    ensures table { λ _. ⌜ now (table .exit) ≡ called (now (table .entry)) (now (medium .entry)) (now (call .entry)) (now (reply .entry)) .table ⌝ }
+    ensures medium { λ _. ⌜ now (medium .exit) ≡ called (now (table .entry)) (now (medium .entry)) (now (call .entry)) (now (reply .entry)) .medium ⌝ }
+    ensures reply { λ _. ⌜ now (reply .exit) ≡ called (now (table .entry)) (now (medium .entry)) (now (call .entry)) (now (reply .entry)) .reply ⌝ }
+{
+    call_words::call(table, medium, call, reply)
+}
+
+// Runs a list of calls on a started table.
+#[no_mangle]
+pub extern "C" fn archive_replay(
+    capacity: u32,
+    calls: &[u32],
+    medium: &mut [u32],
+    replies: &mut [u32],
+) -> usize
+    ensures number { λ r. ⌜ r ≡ runs capacity (now (calls .entry)) (now (replies .entry)) ⌝ }
+    ensures words { λ r. ⌜ now (medium .exit) ≡ after (started capacity (now (medium .entry))) (callsBelow (now (calls .entry)) r) .medium ⌝ }
+    ensures replies { λ r. ⌜ now (replies .exit) ≡ withReplies (replyAt (started capacity (now (medium .entry))) (now (calls .entry))) r (now (replies .entry)) ⌝ }
+    ensures ledger { λ r. ⌜ LedgerWords capacity (now (medium .entry)) (now (calls .entry)) r (now (replies .exit)) ⌝ }
+{
+    replay::replay(capacity, calls, medium, replies)
+}
+
+// Runs a list of calls on a lent table.
+#[no_mangle]
+pub extern "C" fn archive_resume(
+    table: &mut [u32],
+    calls: &[u32],
+    medium: &mut [u32],
+    replies: &mut [u32],
+) -> usize
+    ensures number { λ r. ⌜ r ≡ resumes (now (table .entry)) (now (calls .entry)) (now (replies .entry)) ⌝ }
+    ensures table { λ r. ⌜ now (table .exit) ≡ withTable (now (table .entry)) (after (lent (now (table .entry)) (now (medium .entry))) (callsBelow (now (calls .entry)) r) .table) ⌝ }
+    ensures words { λ r. ⌜ now (medium .exit) ≡ after (lent (now (table .entry)) (now (medium .entry))) (callsBelow (now (calls .entry)) r) .medium ⌝ }
+    ensures replies { λ r. ⌜ now (replies .exit) ≡ withReplies (replyAt (lent (now (table .entry)) (now (medium .entry))) (now (calls .entry))) r (now (replies .entry)) ⌝ }
+{
+    replay::resume(table, calls, medium, replies)
+}
+
+// Stores the write servers of ids.
+#[no_mangle]
+pub extern "C" fn archive_picks(weights: &[u32], ids: &[u32], servers: &mut [u32]) -> usize
+    ensures number { λ r. ⌜ r ≡ picksOf (now (weights .entry)) (now (ids .entry)) (now (servers .entry)) ⌝ }
+    ensures servers { λ r. ⌜ now (servers .exit) ≡ setBelow (λ i. writeServer (nth (now (weights .entry))) (length (now (weights .entry))) (nth (now (ids .entry)) i)) r (now (servers .entry)) ⌝ }
+{
+    picks::picks(weights, ids, servers)
+}
+
+// Looks many ids up together, and stores each id's reply, the order of finding and the number of servers opened.
+#[no_mangle]
+pub extern "C" fn archive_lookup_batch(
+    table: &[u32],
+    medium: &[u32],
+    ids: &[u32],
+    replies: &mut [u32],
+    order: &mut [u32],
+    mounts: &mut [u32],
+) -> u32
+    ensures number { λ r. ⌜ r ≡ calledBatch (now (table .entry)) (now (medium .entry)) (now (ids .entry)) (now (replies .entry)) (now (order .entry)) (now (mounts .entry)) .number ⌝ }
+    ensures replies { λ _. ⌜ now (replies .exit) ≡ calledBatch (now (table .entry)) (now (medium .entry)) (now (ids .entry)) (now (replies .entry)) (now (order .entry)) (now (mounts .entry)) .replies ⌝ }
+    ensures order { λ _. ⌜ now (order .exit) ≡ calledBatch (now (table .entry)) (now (medium .entry)) (now (ids .entry)) (now (replies .entry)) (now (order .entry)) (now (mounts .entry)) .order ⌝ }
+    ensures mounts { λ _. ⌜ now (mounts .exit) ≡ calledBatch (now (table .entry)) (now (medium .entry)) (now (ids .entry)) (now (replies .entry)) (now (order .entry)) (now (mounts .entry)) .mounts ⌝ }
+{
+    batch_words::lookup_batch(table, medium, ids, replies, order, mounts)
+}

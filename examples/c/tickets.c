@@ -1,0 +1,56 @@
+/* Starts an archive of three servers, writes two tickets, looks them up, and prints what it did. */
+#include <stdio.h>
+#include <stdlib.h>
+#include "archive.h"
+
+#define CAPACITY 100
+#define SERVERS 3
+#define WORDS (3 * CAPACITY * SERVERS)
+
+static uint32_t table[ARCHIVE_TABLE_WORDS], medium[WORDS], reply[ARCHIVE_REPLY_WORDS];
+
+/* One call; a refusal other than `absent` ends the program. */
+static uint32_t call(uint32_t number, uint32_t subject, uint32_t amount)
+{
+    uint32_t words[ARCHIVE_CALL_WORDS] = {0};
+    words[ARCHIVE_CALL_NUMBER] = number;
+    words[ARCHIVE_CALL_SUBJECT] = subject;
+    words[ARCHIVE_CALL_AMOUNT] = amount;
+    uint32_t refusal = archive_call(table, ARCHIVE_TABLE_WORDS, medium, WORDS, words, ARCHIVE_CALL_WORDS, reply, ARCHIVE_REPLY_WORDS);
+    if (refusal != ARCHIVE_ACCEPTED && refusal != ARCHIVE_NOT_FOUND) {
+        fprintf(stderr, "call %u was refused: %u\n", (unsigned)number, (unsigned)refusal);
+        exit(1);
+    }
+    return refusal;
+}
+
+static void write_ticket(uint32_t id, uint32_t value)
+{
+    call(ARCHIVE_WRITE, id, value);
+    printf("ticket %u: %u on server %u\n", (unsigned)id, (unsigned)value, (unsigned)reply[ARCHIVE_REPLY_SERVER]);
+}
+
+static void look_up(uint32_t id)
+{
+    if (call(ARCHIVE_LOOKUP, id, 0) == ARCHIVE_NOT_FOUND)
+        printf("ticket %u: absent, %u opened\n", (unsigned)id, (unsigned)reply[ARCHIVE_REPLY_OPENED]);
+    else
+        printf("ticket %u is worth %u, %u opened\n", (unsigned)id, (unsigned)reply[ARCHIVE_REPLY_VALUE], (unsigned)reply[ARCHIVE_REPLY_OPENED]);
+}
+
+int main(void)
+{
+    if (archive_abi() != ARCHIVE_ABI || archive_start(CAPACITY, table, ARCHIVE_TABLE_WORDS) != ARCHIVE_ACCEPTED)
+        return 1;
+    for (size_t i = 0; i < WORDS; i++)
+        medium[i] = ARCHIVE_BLANK;
+    for (uint32_t k = 0; k < SERVERS; k++)
+        call(ARCHIVE_ADD_SERVER, 0, 50);
+    write_ticket(1001, 250);
+    write_ticket(1002, 500);
+    write_ticket(1001, 300);
+    look_up(1001);
+    call(ARCHIVE_DELETE, 1002, 0);
+    look_up(1002);
+    return 0;
+}

@@ -1,0 +1,164 @@
+/*
+ * A ticket archive on write-once media, as a library of proved functions.
+ *
+ * The archive is two runs of 32-bit words that the caller owns and lends to each call:
+ *
+ *   table   ARCHIVE_TABLE_WORDS words. It says which servers there are, their weights and how many entries of each are
+ *           used. archive_start makes one; the caller keeps it from call to call, and may store it and lend it again later.
+ *   medium  the discs, as one run of words. Server k has ARCHIVE_SERVER_WORDS(capacity) words from
+ *           k * ARCHIVE_SERVER_WORDS(capacity) on. Before its server is added every word must be ARCHIVE_BLANK.
+ *
+ * No function allocates, keeps a pointer, or touches anything but the words it is lent. A run is passed as a pointer and the
+ * number of its words; the pointer must not be null, even for no words. Runs that a call writes to must not overlap others.
+ * Two calls at the same time must not share a table or a medium that one of them writes to.
+ *
+ * Nothing here needs to be checked beforehand: every function ends for every table, medium and argument, and refuses by a
+ * number what it cannot do. A refused call leaves table and medium as they were.
+ */
+#ifndef ARCHIVE_H
+#define ARCHIVE_H
+
+#include <stddef.h>
+#include <stdint.h>
+
+#ifdef __cplusplus
+extern "C" {
+#endif
+
+/* The version of this interface. It grows when a signature or an encoding changes; archive_abi() answers the library's own. */
+#define ARCHIVE_ABI 1u
+
+/* How many words a table, a call and a reply have. */
+#define ARCHIVE_TABLE_WORDS 1026u
+#define ARCHIVE_CALL_WORDS 8u
+#define ARCHIVE_REPLY_WORDS 8u
+
+/* A word of the medium that was never written. */
+#define ARCHIVE_BLANK 0xFFFFFFFFu
+
+/* How many words of the medium a server has, by the table's capacity: the entries of each server, 1 to 65,536. */
+#define ARCHIVE_SERVER_WORDS(capacity) ((size_t)3 * (size_t)(capacity))
+
+/* The most servers, the most entries of a server, the most ids of a batch; ids and values are below ARCHIVE_CONTENT_RANGE. */
+#define ARCHIVE_MAX_SERVERS 256u
+#define ARCHIVE_MAX_CAPACITY 65536u
+#define ARCHIVE_MAX_IDS 256u
+#define ARCHIVE_CONTENT_RANGE 1073741824u
+
+/*
+ * A call is eight words. The number, word 0, says which of the others count; those that do not count are not read.
+ *
+ *   number                  SUBJECT   AMOUNT    what it does, and what its reply has
+ *   ARCHIVE_ADD_SERVER                weight    adds a server; SERVER is its number, 0 for the first, then 1 and so on
+ *   ARCHIVE_REWEIGHT        server    weight    sets a server's weight (its share of new writes); SERVER is that server
+ *   ARCHIVE_WRITE           id        value     writes; SERVER is where it went, INVALIDATED how many earlier entries of the
+ *                                               id it marked as replaced
+ *   ARCHIVE_DELETE          id                  deletes; INVALIDATED is how many entries it marked as deleted
+ *   ARCHIVE_LOOKUP          id                  looks up; VALUE is the value last written, OPENED how many servers were opened
+ *
+ * The other words are for later calls. A number that is no call's gets ARCHIVE_NO_CALL and changes nothing.
+ */
+#define ARCHIVE_ADD_SERVER 1u
+#define ARCHIVE_REWEIGHT 2u
+#define ARCHIVE_WRITE 3u
+#define ARCHIVE_DELETE 4u
+#define ARCHIVE_LOOKUP 5u
+
+/* Which word of a call is which. */
+#define ARCHIVE_CALL_NUMBER 0
+#define ARCHIVE_CALL_SUBJECT 2
+#define ARCHIVE_CALL_AMOUNT 3
+
+/* Which word of a reply is which. A word that the call does not carry is 0. */
+#define ARCHIVE_REPLY_REFUSAL 0
+#define ARCHIVE_REPLY_SERVER 1
+#define ARCHIVE_REPLY_VALUE 2
+#define ARCHIVE_REPLY_OPENED 4
+#define ARCHIVE_REPLY_INVALIDATED 5
+
+/* Refusal numbers, each with the word that the paper has for it. 0 is no refusal: the call was carried out. */
+#define ARCHIVE_ACCEPTED 0u
+#define ARCHIVE_UNSOUND_TABLE 1u     /* foreign table: its words are no table that calls can have made */
+#define ARCHIVE_OUT_OF_RANGE 2u      /* out of range: a capacity, weight, id or value, or a list of more than 256 ids */
+#define ARCHIVE_NO_SUCH_SERVER 3u    /* no such shelf: no server has that number, or there is none at all */
+#define ARCHIVE_TOO_MANY_SERVERS 4u  /* rack full: there are 256 servers already */
+#define ARCHIVE_SHORT_MEDIUM 5u      /* short medium: the medium has too few words for the servers */
+#define ARCHIVE_SERVER_FULL 6u       /* shelf full: the server that the write goes to has no entry left */
+#define ARCHIVE_NOT_BLANK 7u         /* not blank: a word that would be written, or a new server's, is not blank */
+#define ARCHIVE_NOT_FOUND 8u         /* absent: the id was never written, or was deleted since */
+#define ARCHIVE_EXCEEDS_FREE 9u      /* over free: the weight is more than the server has free entries */
+#define ARCHIVE_CORRUPT 10u          /* damaged: the value word found is no value */
+
+/* Numbers that no call gives. */
+#define ARCHIVE_SHORT 4294967294u    /* a run that was lent is too short; nothing was done */
+#define ARCHIVE_NO_CALL 4294967295u  /* word 0 of a call is no call's number; nothing was done */
+
+/* The version of the library's interface, to be compared with ARCHIVE_ABI. */
+uint32_t archive_abi(void);
+
+/* How many words a table has, to be compared with ARCHIVE_TABLE_WORDS. */
+size_t archive_table_words(void);
+
+/*
+ * Makes a table of no server, whose servers will have `capacity` entries each.
+ * Answers ARCHIVE_ACCEPTED; ARCHIVE_OUT_OF_RANGE for a capacity of 0 or above 65,536, and the table is then all zeros, on
+ * which every call is refused; or ARCHIVE_SHORT.
+ */
+uint32_t archive_start(uint32_t capacity, uint32_t *table, size_t table_words);
+
+/*
+ * Runs one call and stores its reply.
+ * Answers the reply's refusal number, or ARCHIVE_SHORT if table, call or reply have too few words: then no word is changed.
+ */
+uint32_t archive_call(uint32_t *table, size_t table_words,
+                      uint32_t *medium, size_t medium_words,
+                      const uint32_t *call, size_t call_words,
+                      uint32_t *reply, size_t reply_words);
+
+/*
+ * Looks up to 256 ids up together, and opens each server at most once for all of them. Repeats are allowed.
+ * replies  eight words for each id, in the order of the ids: what ARCHIVE_LOOKUP alone would reply
+ * order    one word for each id: the positions in the list, in the order in which they are found, server by server
+ * mounts   one word: how many different servers were opened
+ * Answers ARCHIVE_ACCEPTED, whatever the ids' own refusals are; ARCHIVE_OUT_OF_RANGE, or ARCHIVE_UNSOUND_TABLE, for a list of
+ * more than 256 ids; or ARCHIVE_SHORT. Unless it is accepted, no word is changed.
+ */
+uint32_t archive_lookup_batch(const uint32_t *table, size_t table_words,
+                              const uint32_t *medium, size_t medium_words,
+                              const uint32_t *ids, size_t ids_words,
+                              uint32_t *replies, size_t replies_words,
+                              uint32_t *order, size_t order_words,
+                              uint32_t *mounts, size_t mounts_words);
+
+/*
+ * Runs a list of calls, eight words each, one after another on a new table of this capacity, and stores their replies.
+ * Answers how many were run: as many as both `calls` and `replies` have room for, and none if the capacity is out of range.
+ */
+size_t archive_replay(uint32_t capacity,
+                      const uint32_t *calls, size_t calls_words,
+                      uint32_t *medium, size_t medium_words,
+                      uint32_t *replies, size_t replies_words);
+
+/*
+ * The same on a table that is lent, and that has the table after the calls afterwards.
+ * Answers how many were run; none if the table has too few words.
+ */
+size_t archive_resume(uint32_t *table, size_t table_words,
+                      const uint32_t *calls, size_t calls_words,
+                      uint32_t *medium, size_t medium_words,
+                      uint32_t *replies, size_t replies_words);
+
+/*
+ * Where writes would go: for each id the server that the rule picks among servers of these weights. No table, no medium.
+ * Answers how many servers were stored: as many as both `ids` and `servers` have room for, and none if there is no weight,
+ * there are more than 256, or one is above 65,536.
+ */
+size_t archive_picks(const uint32_t *weights, size_t weights_words,
+                     const uint32_t *ids, size_t ids_words,
+                     uint32_t *servers, size_t servers_words);
+
+#ifdef __cplusplus
+}
+#endif
+
+#endif

@@ -1,0 +1,231 @@
+//! A ticket archive on write-once media: the proved library, safe to call from Rust.
+//!
+//! ```
+//! use ticket_archive::{Archive, BLANK};
+//!
+//! let mut medium = vec![BLANK; 3 * 100 * 2];
+//! let mut archive = Archive::start(100, &mut medium).unwrap();
+//! archive.add_server(60).unwrap();
+//! archive.add_server(40).unwrap();
+//! archive.write(1001, 250).unwrap();
+//! assert_eq!(archive.lookup(1001).unwrap().value, 250);
+//! ```
+
+pub mod functions;
+mod words;
+
+use std::fmt;
+
+pub use words::*;
+
+/// Why a call was refused, by the paper's numbers.
+#[derive(Clone, Copy, Debug, PartialEq, Eq)]
+pub enum Refusal {
+    UnsoundTable = 1,
+    OutOfRange = 2,
+    NoSuchServer = 3,
+    TooManyServers = 4,
+    ShortMedium = 5,
+    ServerFull = 6,
+    NotBlank = 7,
+    NotFound = 8,
+    ExceedsFree = 9,
+    Corrupt = 10,
+}
+
+const REFUSALS: [Refusal; 10] = [
+    Refusal::UnsoundTable,
+    Refusal::OutOfRange,
+    Refusal::NoSuchServer,
+    Refusal::TooManyServers,
+    Refusal::ShortMedium,
+    Refusal::ServerFull,
+    Refusal::NotBlank,
+    Refusal::NotFound,
+    Refusal::ExceedsFree,
+    Refusal::Corrupt,
+];
+
+impl Refusal {
+    /// The refusal of a number; 0 and the numbers that no call gives are none.
+    pub fn from_number(number: u32) -> Option<Self> {
+        REFUSALS.into_iter().find(|refusal| *refusal as u32 == number)
+    }
+}
+
+impl fmt::Display for Refusal {
+    fn fmt(&self, out: &mut fmt::Formatter<'_>) -> fmt::Result {
+        let text = match self {
+            Refusal::UnsoundTable => "the table is not one that calls can have made",
+            Refusal::OutOfRange => "an argument is out of range",
+            Refusal::NoSuchServer => "there is no such server",
+            Refusal::TooManyServers => "there are 256 servers already",
+            Refusal::ShortMedium => "the medium is too short for the servers",
+            Refusal::ServerFull => "the server that the write goes to is full",
+            Refusal::NotBlank => "a word that would be written is not blank",
+            Refusal::NotFound => "the id is absent",
+            Refusal::ExceedsFree => "the weight exceeds the server's free entries",
+            Refusal::Corrupt => "the value word is damaged",
+        };
+        out.write_str(text)
+    }
+}
+
+impl std::error::Error for Refusal {}
+
+/// An accepted write: where it went, and how many earlier entries of the id it replaced.
+#[derive(Clone, Copy, Debug, PartialEq, Eq)]
+pub struct Written {
+    pub server: u32,
+    pub invalidated: u32,
+}
+
+/// A value found, and how many servers were opened for it.
+#[derive(Clone, Copy, Debug, PartialEq, Eq)]
+pub struct Found {
+    pub value: u32,
+    pub opened: u32,
+}
+
+/// A lookup that found no value, and how many servers were opened for it.
+#[derive(Clone, Copy, Debug, PartialEq, Eq)]
+pub struct Missed {
+    pub refusal: Refusal,
+    pub opened: u32,
+}
+
+impl fmt::Display for Missed {
+    fn fmt(&self, out: &mut fmt::Formatter<'_>) -> fmt::Result {
+        self.refusal.fmt(out)
+    }
+}
+
+impl std::error::Error for Missed {}
+
+/// Many ids looked up together.
+#[derive(Clone, Debug, PartialEq, Eq)]
+pub struct Batch {
+    /// What a lookup of each id alone would answer, in the order of the ids.
+    pub answers: Vec<Result<Found, Missed>>,
+    /// The positions of the ids, in the order in which they are found.
+    pub order: Vec<u32>,
+    /// How many different servers were opened.
+    pub mounts: u32,
+}
+
+/// A table over a medium that is lent to it.
+pub struct Archive<'m> {
+    table: [u32; TABLE_WORDS],
+    medium: &'m mut [u32],
+}
+
+fn told(number: u32) -> Result<(), Refusal> {
+    match number {
+        0 => Ok(()),
+        _ => Err(Refusal::from_number(number).expect("slices have the lengths that are asked for")),
+    }
+}
+
+fn looked_up(reply: &[u32]) -> Result<Found, Missed> {
+    let opened = reply[reply::OPENED];
+    match told(reply[reply::REFUSAL]) {
+        Ok(()) => Ok(Found {
+            value: reply[reply::VALUE],
+            opened,
+        }),
+        Err(refusal) => Err(Missed { refusal, opened }),
+    }
+}
+
+impl<'m> Archive<'m> {
+    /// An archive of no server over a medium, whose servers will have this many entries each.
+    pub fn start(capacity: u32, medium: &'m mut [u32]) -> Result<Self, Refusal> {
+        let mut table = [0; TABLE_WORDS];
+        told(functions::start(capacity, &mut table))?;
+        Ok(Archive { table, medium })
+    }
+
+    /// An archive from the words of a table, which may be any: calls refuse those of none.
+    pub fn from_words(table: [u32; TABLE_WORDS], medium: &'m mut [u32]) -> Self {
+        Archive { table, medium }
+    }
+
+    /// The words of its table, to be kept.
+    pub fn table(&self) -> &[u32; TABLE_WORDS] {
+        &self.table
+    }
+
+    /// The words of its medium.
+    pub fn medium(&self) -> &[u32] {
+        self.medium
+    }
+
+    /// Runs one encoded call; answers its reply.
+    pub fn call(&mut self, call: &[u32; CALL_WORDS]) -> [u32; REPLY_WORDS] {
+        let mut reply = [0; REPLY_WORDS];
+        functions::call(&mut self.table, self.medium, call, &mut reply);
+        reply
+    }
+
+    fn run(&mut self, number: u32, subject: u32, amount: u32) -> [u32; REPLY_WORDS] {
+        let mut words = [0; CALL_WORDS];
+        words[call::NUMBER] = number;
+        words[call::SUBJECT] = subject;
+        words[call::AMOUNT] = amount;
+        self.call(&words)
+    }
+
+    /// Adds a server; answers its number.
+    pub fn add_server(&mut self, weight: u32) -> Result<u32, Refusal> {
+        let reply = self.run(call::ADD_SERVER, 0, weight);
+        told(reply[reply::REFUSAL])?;
+        Ok(reply[reply::SERVER])
+    }
+
+    /// Sets a server's weight.
+    pub fn reweight(&mut self, server: u32, weight: u32) -> Result<(), Refusal> {
+        told(self.run(call::REWEIGHT, server, weight)[reply::REFUSAL])
+    }
+
+    /// Writes a value.
+    pub fn write(&mut self, id: u32, value: u32) -> Result<Written, Refusal> {
+        let reply = self.run(call::WRITE, id, value);
+        told(reply[reply::REFUSAL])?;
+        Ok(Written {
+            server: reply[reply::SERVER],
+            invalidated: reply[reply::INVALIDATED],
+        })
+    }
+
+    /// Deletes an id; answers how many entries it invalidated.
+    pub fn delete(&mut self, id: u32) -> Result<u32, Refusal> {
+        let reply = self.run(call::DELETE, id, 0);
+        told(reply[reply::REFUSAL])?;
+        Ok(reply[reply::INVALIDATED])
+    }
+
+    /// Looks an id up.
+    pub fn lookup(&mut self, id: u32) -> Result<Found, Missed> {
+        looked_up(&self.run(call::LOOKUP, id, 0))
+    }
+
+    /// Looks up to 256 ids up together.
+    pub fn lookup_batch(&self, ids: &[u32]) -> Result<Batch, Refusal> {
+        let mut replies = vec![0; REPLY_WORDS * ids.len()];
+        let mut order = vec![0; ids.len()];
+        let mut mounts = [0];
+        told(functions::lookup_batch(
+            &self.table,
+            self.medium,
+            ids,
+            &mut replies,
+            &mut order,
+            &mut mounts,
+        ))?;
+        Ok(Batch {
+            answers: replies.chunks_exact(REPLY_WORDS).map(looked_up).collect(),
+            order,
+            mounts: mounts[0],
+        })
+    }
+}

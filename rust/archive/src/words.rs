@@ -1,0 +1,42 @@
+//! Calls and replies as words, as include/archive.h has them.
+
+/// How many words a table has.
+pub const TABLE_WORDS: usize = 1026;
+
+/// How many words a call has.
+pub const CALL_WORDS: usize = 8;
+
+/// How many words a reply has.
+pub const REPLY_WORDS: usize = 8;
+
+/// A word of the medium that was never written.
+pub const BLANK: u32 = u32::MAX;
+
+/// The answer to a run that is too short.
+pub const SHORT: u32 = u32::MAX - 1;
+
+/// The answer to a number that is no call's.
+pub const NO_CALL: u32 = u32::MAX;
+
+/// The numbers of the calls.
+pub mod call {
+    pub const ADD_SERVER: u32 = 1;
+    pub const REWEIGHT: u32 = 2;
+    pub const WRITE: u32 = 3;
+    pub const DELETE: u32 = 4;
+    pub const LOOKUP: u32 = 5;
+
+    /// Which word of a call is which.
+    pub const NUMBER: usize = 0;
+    pub const SUBJECT: usize = 2;
+    pub const AMOUNT: usize = 3;
+}
+
+/// Which word of a reply is which.
+pub mod reply {
+    pub const REFUSAL: usize = 0;
+    pub const SERVER: usize = 1;
+    pub const VALUE: usize = 2;
+    pub const OPENED: usize = 4;
+    pub const INVALIDATED: usize = 5;
+}
