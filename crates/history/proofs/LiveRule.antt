@@ -23,7 +23,7 @@ use Rattle.writing.specs.Writing.{writeBurns, writeMedium}
 use Rattle.servers.specs.Servers.{startRows}
 use Rattle.history.specs.Call.{Call, addServer, reweight, write, delete, lookup, batch}
 use Rattle.history.specs.Machine.{State, next, after, begin}
-use Rattle.history.specs.Ledger.{Event, wrote, deleted, Ledger, Entered, enterBy, opening, usedBy, addServerRowsL, withServerL, reweightRowsL, withWeightL, withEvent, writeRowsL, deleteRowsL, lookupRowsL, enter, ledgerAfter}
+use Rattle.history.specs.Ledger.{Event, wrote, deleted, Ledger, Entered, enterBy, freshLedger, usedBy, addServerRowsL, withServerL, reweightRowsL, withWeightL, withEvent, writeRowsL, deleteRowsL, lookupRowsL, enter, ledgerAfter}
 use Rattle.history.specs.Demand3.{stateThen, ledgerThen}
 use Rattle.history.specs.LiveRule.{stays, LiveRule}
 use Rattle.history.proofs.Events.{EachWrite, each-none, each-wrote, each-deleted, used-write}
@@ -113,8 +113,8 @@ unfolding after ledgerAfter
 run-rules [] S L A R = R
 run-rules (c ∷ calls) S L A R = run-rules calls (next S c) (enter L c .ledger) (step S L A c .agrees) (next-rules S L A R c)
 
-begin-rules : (capacity n : ℕ) → Rules (opening capacity n) (begin capacity n .medium)
-unfolding opening
+begin-rules : (capacity n : ℕ) → Rules (freshLedger capacity n) (begin capacity n .medium)
+unfolding freshLedger
 begin-rules capacity n = each-none _
 
 pub live-rule : (capacity n : ℕ) → firstOf (startRows capacity) ≡ 0 → (calls : List Call) → LiveRule capacity n calls
@@ -123,10 +123,10 @@ live-rule capacity n z calls =
     let S = stateThen capacity n calls in
     let L = ledgerThen capacity n calls in
     let B = begin-agrees capacity n z in
-    let A : Agrees (stateThen capacity n calls) (ledgerThen capacity n calls) = run calls (begin capacity n) (opening capacity n) B .agrees in
+    let A : Agrees (stateThen capacity n calls) (ledgerThen capacity n calls) = run calls (begin capacity n) (freshLedger capacity n) B .agrees in
     record {
       rule = λ newer older id value server e.
           let there = write-there (A .holds) newer older id value server e in
           rw (lt-ltb (usedBy older server) (usedOf (S .table) server) (omega (arith, A .used server there, used-write (L .events) newer older id value server e)))
-          (table-ruled A (run-rules calls (begin capacity n) (opening capacity n) B (begin-rules capacity n)) newer older id value server e);
+          (table-ruled A (run-rules calls (begin capacity n) (freshLedger capacity n) B (begin-rules capacity n)) newer older id value server e);
     }

@@ -17,7 +17,7 @@ use Rattle.lookup.specs.Lookup.{lookupReply}
 use Rattle.servers.specs.Servers.{startRows}
 use Rattle.history.specs.Call.{Call, Compared, compared}
 use Rattle.history.specs.Machine.{State, begin}
-use Rattle.history.specs.Ledger.{Event, wrote, Ledger, Standing, opening, usedBy, standing, standingReply}
+use Rattle.history.specs.Ledger.{Event, wrote, Ledger, Standing, freshLedger, usedBy, standing, standingReply}
 use Rattle.history.specs.Demand3.{Stands, Demand3, stateThen, ledgerThen}
 use Rattle.history.proofs.Unaltered.{after-once, after-append}
 use Rattle.history.proofs.Events.{used-write, own-entry, last-stands, stands-came}
@@ -90,11 +90,11 @@ unfolding compared
 demand3 capacity n z calls =
     let S = stateThen capacity n calls in
     let L = ledgerThen capacity n calls in
-    let r = run calls (begin capacity n) (opening capacity n) (begin-agrees capacity n z) in
+    let r = run calls (begin capacity n) (freshLedger capacity n) (begin-agrees capacity n z) in
     let A : Agrees (stateThen capacity n calls) (ledgerThen capacity n calls) = r .agrees in
     record {
       alike = r .alike;
-      batches = λ before later ids e. same-batch (run before (begin capacity n) (opening capacity n) (begin-agrees capacity n z) .agrees) ids;
+      batches = λ before later ids e. same-batch (run before (begin capacity n) (freshLedger capacity n) (begin-agrees capacity n z) .agrees) ids;
       finds = λ id value server w. finds S L A id (record { value = value; server = server }) (last-stands (L .events) id value server w);
       absent = λ id s l. (
         λ e value server w. not-both (absent S L A id s l .0 e) (last-stands (L .events) id value server w),
@@ -107,5 +107,5 @@ demand3 capacity n z calls =
       stands = stands S L A;
       own = own S L A;
       live = live-writes S L A;
-      never = λ before later c e. never (stateThen capacity n before) (ledgerThen capacity n before) (run before (begin capacity n) (opening capacity n) (begin-agrees capacity n z) .agrees) c;
+      never = λ before later c e. never (stateThen capacity n before) (ledgerThen capacity n before) (run before (begin capacity n) (freshLedger capacity n) (begin-agrees capacity n z) .agrees) c;
     }

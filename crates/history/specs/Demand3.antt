@@ -15,7 +15,7 @@ use Rattle.lookup.specs.Lookup.{lookupReply}
 use Rattle.batch.specs.Batch.{batchReply}
 use Rattle.history.specs.Call.{Call, batch, compared}
 use Rattle.history.specs.Machine.{State, refusals, after, replies, begin, liveEntries}
-use Rattle.history.specs.Ledger.{Event, wrote, deleted, Ledger, opening, usedBy, writes, batchL, ledgerAfter, ledgerReplies}
+use Rattle.history.specs.Ledger.{Event, wrote, deleted, Ledger, freshLedger, usedBy, writes, batchL, ledgerAfter, ledgerReplies}
 
 -- no event of an id among these
 unfoldable pub untouched : ℕ → List Event → Bool
@@ -43,7 +43,7 @@ module _ (capacity n : ℕ) (calls : List Call) where
   stateThen = after (begin capacity n) calls
 
   abbrev pub ledgerThen : Ledger
-  ledgerThen = ledgerAfter (opening capacity n) calls
+  ledgerThen = ledgerAfter (freshLedger capacity n) calls
 
   abbrev pub eventsThen : List Event
   eventsThen = ledgerThen .events
@@ -63,7 +63,7 @@ module _ (capacity n : ℕ) (calls : List Call) where
 
   pub record Demand3 : Type 0 where
     -- each call answers with the refusal number, server, value and opened count that the ledger gives
-    pub alike : map compared (replies (begin capacity n) calls) ≡ ledgerReplies (opening capacity n) calls
+    pub alike : map compared (replies (begin capacity n) calls) ≡ ledgerReplies (freshLedger capacity n) calls
     -- and each batch of lookups with the ledger's whole answer
     pub batches : (before later : List Call) (ids : List ℕ) → before ++ (batch ids ∷ later) ≡ calls
         → batchReply (stateThen capacity n before .table) (stateThen capacity n before .medium) ids ≡ batchL (ledgerThen capacity n before) ids

@@ -33,8 +33,8 @@ pub record Ledger : Type 0 where
   pub events : List Event
 
 -- no server, write or delete
-unfoldable pub opening : ℕ → ℕ → Ledger
-opening capacity words = record {
+unfoldable pub freshLedger : ℕ → ℕ → Ledger
+freshLedger capacity words = record {
   capacity = capacity;
   words = words;
   servers = 0;

@@ -26,7 +26,7 @@ use Rattle.replies.proofs.Answers.{number-not-zero, reply-number}
 use Rattle.servers.specs.Servers.{startRows, startReply, startTable}
 use Rattle.history.specs.Call.{Call, compared}
 use Rattle.history.specs.Machine.{State, after, begin}
-use Rattle.history.specs.Ledger.{opening, ledgerAfter}
+use Rattle.history.specs.Ledger.{freshLedger, ledgerAfter}
 use Rattle.history.proofs.Unaltered.{after-append}
 use Rattle.history.proofs.Run.{begin-agrees, step, run}
 use Rattle.encoding.specs.Encoding.{callLength, numberOffset, subjectOffset, amountOffset, replyLength, roomFor, withReplyAt, withReply, replyFrom}
@@ -66,11 +66,11 @@ module _ (f : ℕ → Reply) (words : List ℕ) where
 
 -- on blank words the replies are the plain ledger's
 module _ (capacity : ℕ) (z : firstOf (startRows capacity) ≡ 0) (m : List ℕ) (b : (a : ℕ) → a < length m → nth m a ≡ blank) where
-  ledger-alike : (calls : List Call) (o : Option Call) → compared (replyTo (after (begin capacity (length m)) calls) o) ≡ ledgerReplyTo (ledgerAfter (opening capacity (length m)) calls) o
+  ledger-alike : (calls : List Call) (o : Option Call) → compared (replyTo (after (begin capacity (length m)) calls) o) ≡ ledgerReplyTo (ledgerAfter (freshLedger capacity (length m)) calls) o
   unfolding replyTo ledgerReplyTo compared
   ledger-alike calls none = refl
   ledger-alike calls (some c) =
-      let r = run calls (begin capacity (length m)) (opening capacity (length m)) (begin-agrees capacity (length m) z) in
+      let r = run calls (begin capacity (length m)) (freshLedger capacity (length m)) (begin-agrees capacity (length m) z) in
       step _ _ (r .agrees) c .alike
 
   alike-at : (calls : List ℕ) (i : ℕ) → compared (replyAt (started capacity m) calls i) ≡ ledgerReplyAt capacity (length m) calls i

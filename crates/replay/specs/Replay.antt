@@ -11,7 +11,7 @@ use Rattle.replies.specs.declared.Reply.{Reply}
 use Rattle.servers.specs.Servers.{startRows, startTable}
 use Rattle.history.specs.Call.{Call, Compared}
 use Rattle.history.specs.Machine.{State, after}
-use Rattle.history.specs.Ledger.{Ledger, opening, told, enter, ledgerAfter}
+use Rattle.history.specs.Ledger.{Ledger, freshLedger, told, enter, ledgerAfter}
 use Rattle.encoding.specs.Encoding.{refusalOffset, serverOffset, valueOffset, openedOffset, roomFor, replyWord, withReply}
 use Rattle.encoding.specs.ByNumber.{callAt, noCall, replyTo}
 
@@ -47,7 +47,7 @@ abbrev pub started : ℕ → List ℕ → State
 started capacity m = record { table = startTable capacity; medium = m }
 
 unfoldable pub ledgerReplyAt : ℕ → ℕ → List ℕ → ℕ → Compared
-ledgerReplyAt capacity n calls i = ledgerReplyTo (ledgerAfter (opening capacity n) (callsBelow calls i)) (callAt calls i)
+ledgerReplyAt capacity n calls i = ledgerReplyTo (ledgerAfter (freshLedger capacity n) (callsBelow calls i)) (callAt calls i)
 
 -- what is compared of reply i, by its words
 abbrev pub comparedAt : List ℕ → ℕ → Compared
