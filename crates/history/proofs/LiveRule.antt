@@ -10,7 +10,7 @@ use borrow.Author.Tests.{lt-ltb, le-ltb, leb-true, leb-false}
 use Rattle.limits.specs.Limits.{contentRange}
 use Rattle.lists.proofs.Tests.{byBool}
 use Rattle.placement.specs.declared.Fraction.{Fraction}
-use Rattle.medium.specs.Word.{deleted as deletedMark}
+use Rattle.medium.specs.Word.{deleted}
 use Rattle.medium.specs.Entry.{bears, live}
 use Rattle.medium.specs.Burn.{burnAll, invalidations}
 use Rattle.table.specs.declared.Table.{Table}
@@ -23,10 +23,10 @@ use Rattle.writing.specs.Writing.{writeBurns, writeMedium}
 use Rattle.servers.specs.Servers.{startRows}
 use Rattle.history.specs.Call.{Call, addServer, reweight, write, delete, lookup, batch}
 use Rattle.history.specs.Machine.{State, next, after, begin}
-use Rattle.history.specs.Ledger.{Event, wrote, deleted, Ledger, Entered, enterBy, freshLedger, usedBy, addServerRowsL, withServerL, reweightRowsL, withWeightL, withEvent, writeRowsL, deleteRowsL, lookupRowsL, enter, ledgerAfter}
+use Rattle.history.specs.Ledger.{Event, wrote, removed, Ledger, Entered, enterBy, freshLedger, usedBy, addServerRowsL, withServerL, reweightRowsL, withWeightL, withEvent, writeRowsL, deleteRowsL, lookupRowsL, enter, ledgerAfter}
 use Rattle.history.specs.Demand3.{stateThen, ledgerThen}
 use Rattle.history.specs.LiveRule.{stays, LiveRule}
-use Rattle.history.proofs.Events.{EachWrite, each-none, each-wrote, each-deleted, used-write}
+use Rattle.history.proofs.Events.{EachWrite, each-none, each-wrote, each-removed, used-write}
 use Rattle.history.proofs.Entering.{entered}
 use Rattle.history.proofs.Holds.{Holds, write-there}
 use Rattle.history.proofs.DeletedMedium.{afterDelete, borne}
@@ -56,9 +56,9 @@ module _ {capacity count : ℕ} {greatest : ℕ → Fraction} {events : List Eve
       old-borne H W a k (usedBy older k) (write-there H newer older a v k e) (used-write events newer older a v k e)
       ∙ rw (R newer older a v k e, not-taken id a server k) (and-comm (stays a k newer) (not (eqb id a) || ltb k server)))
 
-  delete-ruled : (id : ℕ) → id < contentRange → Ruled capacity (deleted id ∷ events) (afterDelete capacity count greatest events m id)
+  delete-ruled : (id : ℕ) → id < contentRange → Ruled capacity (removed id ∷ events) (afterDelete capacity count greatest events m id)
   unfolding stays
-  delete-ruled id small = each-deleted _ (λ newer older a v k e.
+  delete-ruled id small = each-removed _ (λ newer older a v k e.
       borne H id small a k (usedBy older k) (write-there H newer older a v k e) (omega (arith, H .fits k, used-write events newer older a v k e))
       ∙ rw (R newer older a v k e) (and-comm (stays a k newer) (not (eqb id a))))
 
@@ -94,9 +94,9 @@ module _ {t : Table} {m : List ℕ} {L : Ledger} (A : Agree t m L) (R : Rules L 
 
   delete-rules : (id : ℕ) → Rules (enter L (delete id) .ledger) (deleteMedium t m id)
   unfolding enter withEvent deleteMedium
-  delete-rules id = settled-rules L m R (deleteRows t m id) (deleteRowsL L id) (same-delete A id) _ (burnAll m (invalidations deletedMark (deleteMarks t m id)))
+  delete-rules id = settled-rules L m R (deleteRows t m id) (deleteRowsL L id) (same-delete A id) _ (burnAll m (invalidations deleted (deleteMarks t m id)))
       (λ z. rw (delete-medium A id)
-      (subst (λ (c : ℕ). Ruled c (deleted id ∷ L .events) (afterDelete (t .capacity) (t .count) (L .greatest) (L .events) m id)) (A .capacity)
+      (subst (λ (c : ℕ). Ruled c (removed id ∷ L .events) (afterDelete (t .capacity) (t .count) (L .greatest) (L .events) m id)) (A .capacity)
       (delete-ruled (A .holds) table-ruled id (accepted-id A id z))))
 
 next-rules : (S : State) (L : Ledger) → Agrees S L → Rules L (S .medium) → (c : Call) → Rules (enter L c .ledger) (next S c .medium)

@@ -15,13 +15,13 @@ use Rattle.lookup.specs.Lookup.{lookupReply}
 use Rattle.batch.specs.Batch.{batchReply}
 use Rattle.history.specs.Call.{Call, batch, compared}
 use Rattle.history.specs.Machine.{State, refusals, after, replies, begin, liveEntries}
-use Rattle.history.specs.Ledger.{Event, wrote, deleted, Ledger, freshLedger, usedBy, writes, batchL, ledgerAfter, ledgerReplies}
+use Rattle.history.specs.Ledger.{Event, wrote, removed, Ledger, freshLedger, usedBy, writes, batchL, ledgerAfter, ledgerReplies}
 
 -- no event of an id among these
 unfoldable pub untouched : ℕ → List Event → Bool
 untouched id [] = true
 untouched id (wrote a value server ∷ older) = not (eqb a id) && untouched id older
-untouched id (deleted a ∷ older) = not (eqb a id) && untouched id older
+untouched id (removed a ∷ older) = not (eqb a id) && untouched id older
 
 -- the events have an accepted write of the id, and after it no write and no delete of that id
 pub record LastWrite (events : List Event) (id value server : ℕ) : Type 0 where

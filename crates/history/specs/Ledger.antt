@@ -20,7 +20,7 @@ use Rattle.history.specs.Call.{Call, addServer, reweight, write, delete,
 -- an accepted write (id, value, server) or an accepted delete
 pub data Event : Type 0 where
   wrote : ℕ → ℕ → ℕ → Event
-  deleted : ℕ → Event
+  removed : ℕ → Event
 
 -- the medium's length, the number of servers, their weights, for each the greatest WriteP so far, and the events, the
 -- newest first
@@ -54,7 +54,7 @@ wordsFor L n = 3 * L .capacity * n
 unfoldable pub usedBy : List Event → ℕ → ℕ
 usedBy [] k = 0
 usedBy (wrote id value server ∷ older) k = cond (eqb server k) 1 0 + usedBy older k
-usedBy (deleted id ∷ older) k = usedBy older k
+usedBy (removed id ∷ older) k = usedBy older k
 
 -- a write that stands: its value and its server
 pub record Standing : Type 0 where
@@ -66,7 +66,7 @@ unfoldable pub standing : List Event → ℕ → Option Standing
 standing [] id = none
 standing (wrote a value server ∷ older) id =
     cond (eqb a id) (some (record { value = value; server = server })) (standing older id)
-standing (deleted a ∷ older) id = cond (eqb a id) none (standing older id)
+standing (removed a ∷ older) id = cond (eqb a id) none (standing older id)
 
 unfoldable pub isStanding : Option Standing → Bool
 isStanding none = false
@@ -76,7 +76,7 @@ isStanding (some x) = true
 unfoldable pub writes : List Event → ℕ
 writes [] = 0
 writes (wrote id value server ∷ older) = suc (writes older)
-writes (deleted id ∷ older) = writes older
+writes (removed id ∷ older) = writes older
 
 -- what a call makes of the ledger, and its reply
 pub record Entered : Type 0 where
@@ -226,7 +226,7 @@ enter L (write id value) =
     let k = targetL L id in
     enterBy L (writeRowsL L id value) (record { reply = told 0 k 0 0; ledger = withEvent L (wrote id value k) })
 enter L (delete id) =
-    enterBy L (deleteRowsL L id) (record { reply = told 0 0 0 0; ledger = withEvent L (deleted id) })
+    enterBy L (deleteRowsL L id) (record { reply = told 0 0 0 0; ledger = withEvent L (removed id) })
 enter L (lookup id) = lookupL L id
 enter L (batch ids) = record { reply = told (batchL L ids .refusal) 0 0 0; ledger = L }
 

@@ -8,14 +8,14 @@ use Rattle.medium.specs.Entry.{live}
 use Rattle.table.specs.Parts.{usedOf}
 use Rattle.history.specs.Call.{Call}
 use Rattle.history.specs.Machine.{State}
-use Rattle.history.specs.Ledger.{Event, wrote, deleted, usedBy}
+use Rattle.history.specs.Ledger.{Event, wrote, removed, usedBy}
 use Rattle.history.specs.Demand3.{stateThen, eventsThen}
 
 -- among the later events there is no delete of the id and no write of it to the same or a lower server
 unfoldable pub stays : ℕ → ℕ → List Event → Bool
 stays id server [] = true
 stays id server (wrote a value k ∷ newer) = (not (eqb a id) || ltb server k) && stays id server newer
-stays id server (deleted a ∷ newer) = not (eqb a id) && stays id server newer
+stays id server (removed a ∷ newer) = not (eqb a id) && stays id server newer
 
 -- entry j of server k is live for an id
 abbrev pub liveIn : State → ℕ → ℕ → ℕ → Bool
