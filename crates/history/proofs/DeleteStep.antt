@@ -22,24 +22,24 @@ use Rattle.lookup.proofs.Passed.{in-range}
 use Rattle.deletion.proofs.Done.{delete-all, delete-ready}
 use Rattle.deletion.specs.Deletion.{isMet, deleteRows, deleteMarks, deleteReply, deleteMedium}
 use Rattle.history.specs.Call.{delete, compared}
-use Rattle.history.specs.Ledger.{removed, Ledger, Standing, usedBy, standing, isStanding, withEvent, deleteRowsL, enter}
-use Rattle.history.proofs.Events.{placeOf, stands-placed, none-placed}
+use Rattle.history.specs.Ledger.{removed, Ledger, Version, usedBy, lastWriteOf, isWritten, withEvent, deleteRowsL, enter}
+use Rattle.history.proofs.Events.{placeOf, came-placed, none-placed}
 use Rattle.history.proofs.DeletedMedium.{afterDelete, delete-holds}
 use Rattle.history.proofs.Agree.{Agree, Step, settled, same-ready, ledger-numbered, same-reads, same-marks, same-met}
 
 module _ {t : Table} {m : List ℕ} {L : Ledger} (A : Agree t m L) (id : ℕ) where
-  same-found : id < contentRange → isMet (searchFor t m id .met) ≡ isStanding (standing (L .events) id)
-  unfolding isMet isStanding
-  same-found n = ap isMet (same-met A id n) ∙ go (standing (L .events) id) refl
+  same-isMet : id < contentRange → isMet (searchFor t m id .met) ≡ isWritten (lastWriteOf (L .events) id)
+  unfolding isMet isWritten
+  same-isMet n = ap isMet (same-met A id n) ∙ go (lastWriteOf (L .events) id) refl
     where
-      go : (o : Option Standing) → standing (L .events) id ≡ o → isMet (placeOf (L .events) id) ≡ isStanding o
+      go : (o : Option Version) → lastWriteOf (L .events) id ≡ o → isMet (placeOf (L .events) id) ≡ isWritten o
       go none e = rw (none-placed (L .events) id e)
-      go (some x) e = rw (stands-placed (L .events) id x e)
+      go (some x) e = rw (came-placed (L .events) id x e)
 
   pub same-rows : firstOf (deleteRows t m id) ≡ firstOf (deleteRowsL L id)
   unfolding deleteRows deleteRowsL lookupRows
   same-rows = more-same _ _ _ _ (ready-numbered t m _) (ledger-numbered L _) (same-ready A (leb contentRange id)) (λ z.
-      first-same 8 _ _ _ _ (ap not (same-found (in-range t m id z))) (λ _. refl))
+      first-same 8 _ _ _ _ (ap not (same-isMet (in-range t m id z))) (λ _. refl))
 
   pub accepted-id : firstOf (deleteRows t m id) ≡ 0 → id < contentRange
   unfolding lookupRows

@@ -42,8 +42,8 @@ module _ {capacity count : ℕ} {greatest : ℕ → Fraction} {events : List Eve
       (done .less a k j i)
       (λ d b. done .others a k j l i (λ e. eqb-false id a d (sym e)) b)
 
-  others-stand : (a : ℕ) → a < contentRange → a ≢ id → TopAt (bears capacity N a) count capacity (placeOf events a)
-  others-stand a n f = top-cong (bears capacity m a) (bears capacity N a) count capacity
+  others-kept : (a : ℕ) → a < contentRange → a ≢ id → TopAt (bears capacity N a) count capacity (placeOf events a)
+  others-kept a n f = top-cong (bears capacity m a) (bears capacity N a) count capacity
       (λ k j l i. iff-eq _ _ (done .less a k j i) (done .others a k j l i f))
       (placeOf events a) (H .tops a n)
 
@@ -55,9 +55,9 @@ module _ {capacity count : ℕ} {greatest : ℕ → Fraction} {events : List Eve
     free = λ k j q l u i b. done .free k j q u i b ∙ H .free k j q l u i b;
     fits = H .fits;
     noneAbove = H .noneAbove;
-    stands = each-removed _ (λ newer older a v k e. once-written m N (done .once) (H .stands newer older a v k e));
+    written = each-removed _ (λ newer older a v k e. once-written m N (done .once) (H .written newer older a v k e));
     opens = λ a k j n l i b. H .opens a k j n l i (done .less a k j i b);
     tops = λ a n. byBool (eqb a id)
         (λ d. rw (eqb-true a id d, removed-self id events) (record { off = none-left }))
-        (λ d. rw (removed-other id a events (eqb-false a id d)) (others-stand a n (eqb-false a id d)));
+        (λ d. rw (removed-other id a events (eqb-false a id d)) (others-kept a n (eqb-false a id d)));
   }

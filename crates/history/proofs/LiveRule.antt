@@ -25,7 +25,7 @@ use Rattle.history.specs.Call.{Call, addServer, reweight, write, delete,
 use Rattle.history.specs.Machine.{State, next, after, begin}
 use Rattle.history.specs.Ledger.{Event, wrote, removed, Ledger, Entered, enterBy, freshLedger, usedBy, addServerRowsL, withServerL, reweightRowsL, withWeightL, withEvent, writeRowsL, deleteRowsL, lookupRowsL, enter, ledgerAfter}
 use Rattle.history.specs.Demand3.{stateThen, ledgerThen}
-use Rattle.history.specs.LiveRule.{stays, LiveRule}
+use Rattle.history.specs.LiveRule.{staysLive, LiveRule}
 use Rattle.history.proofs.Events.{EachWrite, each-none, each-wrote, each-removed, used-write}
 use Rattle.history.proofs.Entering.{entered}
 use Rattle.history.proofs.Holds.{Holds, write-there}
@@ -36,9 +36,9 @@ use Rattle.history.proofs.WriteStep.{same-rows as same-write, accepted,
 use Rattle.history.proofs.DeleteStep.{same-rows as same-delete, accepted-id, delete-medium}
 use Rattle.history.proofs.Run.{Agrees, begin-agrees, step, run}
 
--- each write's entry bears its id exactly when it stays
+-- each write's entry bears its id exactly when the later events leave it so
 abbrev Ruled : ℕ → List Event → List ℕ → Type 0
-Ruled capacity events m = EachWrite events (λ newer older id value server. bears capacity m id server (usedBy older server) ≡ stays id server newer)
+Ruled capacity events m = EachWrite events (λ newer older id value server. bears capacity m id server (usedBy older server) ≡ staysLive id server newer)
 
 -- one event more
 not-taken : (id a server k : ℕ) → not (eqb id a && leb server k) ≡ not (eqb id a) || ltb k server
@@ -51,16 +51,16 @@ not-taken id a server k = byBool (eqb id a)
 module _ {capacity count : ℕ} {greatest : ℕ → Fraction} {events : List Event} {m : List ℕ} (H : Holds capacity count greatest events m) (R : Ruled capacity events m) where
   write-ruled : {id value server : ℕ} → Accepted capacity count greatest events id value server
       → Ruled capacity (wrote id value server ∷ events) (afterWrite capacity count greatest events m id value server)
-  unfolding stays
+  unfolding staysLive
   write-ruled {id} {value} {server} W = each-wrote _ (new-borne H W) (λ newer older a v k e.
       old-borne H W a k (usedBy older k) (write-there H newer older a v k e) (used-write events newer older a v k e)
-      ∙ rw (R newer older a v k e, not-taken id a server k) (and-comm (stays a k newer) (not (eqb id a) || ltb k server)))
+      ∙ rw (R newer older a v k e, not-taken id a server k) (and-comm (staysLive a k newer) (not (eqb id a) || ltb k server)))
 
   delete-ruled : (id : ℕ) → id < contentRange → Ruled capacity (removed id ∷ events) (afterDelete capacity count greatest events m id)
-  unfolding stays
+  unfolding staysLive
   delete-ruled id small = each-removed _ (λ newer older a v k e.
       borne H id small a k (usedBy older k) (write-there H newer older a v k e) (omega (arith, H .fits k, used-write events newer older a v k e))
-      ∙ rw (R newer older a v k e) (and-comm (stays a k newer) (not (eqb id a))))
+      ∙ rw (R newer older a v k e) (and-comm (staysLive a k newer) (not (eqb id a))))
 
 -- the same of a ledger
 abbrev Rules : Ledger → List ℕ → Type 0

@@ -58,7 +58,7 @@ begin-agrees capacity n z =
         free = λ k j q l u i b. absurd (omega arith);
         fits = λ k. omega arith;
         noneAbove = λ k l. refl;
-        stands = each-none _;
+        written = each-none _;
         opens = λ id k j s l i b. absurd (omega arith);
         tops = λ id s. record { off = λ k j l i b. absurd (omega arith) };
       };

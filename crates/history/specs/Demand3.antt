@@ -31,11 +31,11 @@ pub record LastWrite (events : List Event) (id value server : ℕ) : Type 0 wher
   pub clear : untouched id newer ≡ true
 
 -- entry j of a server that is there has the id and the value of a write
-pub record Stands (S : State) (L : Ledger) (id value server j : ℕ) : Type 0 where
+pub record OnMedium (S : State) (L : Ledger) (id value server j : ℕ) : Type 0 where
   pub there : server < L .servers
   pub inside : j < L .capacity
-  pub idStands : nth (S .medium) (entryAt (L .capacity) server j) ≡ idWord id
-  pub valueStands : nth (S .medium) (valueAt (L .capacity) server j) ≡ valueWord value
+  pub idThere : nth (S .medium) (entryAt (L .capacity) server j) ≡ idWord id
+  pub valueThere : nth (S .medium) (valueAt (L .capacity) server j) ≡ valueWord value
 
 module _ (capacity n : ℕ) (calls : List Call) where
   -- state and ledger after the list, its events, and what a lookup then replies
@@ -78,9 +78,9 @@ module _ (capacity n : ℕ) (calls : List Call) where
         → nth (after (begin capacity n) before .medium) a ≢ blank
         → nth (S .medium) a ≡ nth (after (begin capacity n) before .medium) a
     -- id and value of each accepted write stand on the server that the ledger gave it, in the entry that was then its used
-    pub stands : (newer older : List Event) (id value server : ℕ)
+    pub onMedium : (newer older : List Event) (id value server : ℕ)
         → L .events ≡ newer ++ (wrote id value server ∷ older)
-        → Stands S L id value server (usedBy older server)
+        → OnMedium S L id value server (usedBy older server)
     -- which is its own: two accepted writes whose entries share a word of the medium, on any servers, are the same write
     pub own : (newer older newer′ older′ : List Event) (id value server id′ value′ server′ : ℕ)
         → L .events ≡ newer ++ (wrote id value server ∷ older)

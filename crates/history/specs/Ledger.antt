@@ -56,21 +56,22 @@ usedBy [] k = 0
 usedBy (wrote id value server ∷ older) k = cond (eqb server k) 1 0 + usedBy older k
 usedBy (removed id ∷ older) k = usedBy older k
 
--- a write that stands: its value and its server
-pub record Standing : Type 0 where
+-- what an id has by a write: the value, and the server that it went to
+pub record Version : Type 0 where
   pub value : ℕ
   pub server : ℕ
 
 -- the last write of an id with no delete of it afterwards
-unfoldable pub standing : List Event → ℕ → Option Standing
-standing [] id = none
-standing (wrote a value server ∷ older) id =
-    cond (eqb a id) (some (record { value = value; server = server })) (standing older id)
-standing (removed a ∷ older) id = cond (eqb a id) none (standing older id)
+unfoldable pub lastWriteOf : List Event → ℕ → Option Version
+lastWriteOf [] id = none
+lastWriteOf (wrote a value server ∷ older) id =
+    cond (eqb a id) (some (record { value = value; server = server })) (lastWriteOf older id)
+lastWriteOf (removed a ∷ older) id = cond (eqb a id) none (lastWriteOf older id)
 
-unfoldable pub isStanding : Option Standing → Bool
-isStanding none = false
-isStanding (some x) = true
+-- the id has such a write
+unfoldable pub isWritten : Option Version → Bool
+isWritten none = false
+isWritten (some x) = true
 
 -- the number of all writes
 unfoldable pub writes : List Event → ℕ
@@ -172,7 +173,7 @@ writeRowsL L id value =
 unfoldable pub deleteRowsL : Ledger → ℕ → List Row
 deleteRowsL L id =
     readyRowsL L (leb contentRange id)
-    ++ (8 when not (isStanding (standing (L .events) id)) ∷ [])
+    ++ (8 when not (isWritten (lastWriteOf (L .events) id)) ∷ [])
 
 -- lookup: the value of the id's last write, or 8; the servers from that write's upward whose greatest WriteP exceeds their
 -- draw, or all such servers
@@ -183,22 +184,23 @@ lookupRowsL L id = readyRowsL L (leb contentRange id)
 unfoldable pub openedFrom : Ledger → ℕ → ℕ → ℕ
 openedFrom L id from = countBelow (λ k. leb from k && readable (L .greatest) id k) (L .servers)
 
-unfoldable pub standingReply : Ledger → ℕ → Option Standing → Compared
-standingReply L id none = told 8 0 0 (openedFrom L id 0)
-standingReply L id (some x) = told 0 0 (x .value) (openedFrom L id (x .server))
+unfoldable pub lastWriteReply : Ledger → ℕ → Option Version → Compared
+lastWriteReply L id none = told 8 0 0 (openedFrom L id 0)
+lastWriteReply L id (some x) = told 0 0 (x .value) (openedFrom L id (x .server))
 
 -- a lookup changes nothing
 abbrev pub lookupL : Ledger → ℕ → Entered
-lookupL L id = enterBy L (lookupRowsL L id) (record { reply = standingReply L id (standing (L .events) id); ledger = L })
+lookupL L id = enterBy L (lookupRowsL L id) (record { reply = lastWriteReply L id (lastWriteOf (L .events) id); ledger = L })
 
 -- a batch of lookups, which changes nothing: the replies of its lookups, and the servers that they open
 
-unfoldable pub standsFrom : Option Standing → ℕ
-standsFrom none = 0
-standsFrom (some x) = x .server
+-- the lowest server that a lookup of the id may open
+unfoldable pub lowestL : Option Version → ℕ
+lowestL none = 0
+lowestL (some x) = x .server
 
 unfoldable pub opensL : Ledger → ℕ → ℕ → Bool
-opensL L id k = settle (lookupRowsL L id) (leb (standsFrom (standing (L .events) id)) k && readable (L .greatest) id k) false
+opensL L id k = settle (lookupRowsL L id) (leb (lowestL (lastWriteOf (L .events) id)) k && readable (L .greatest) id k) false
 
 unfoldable pub openedAtL : Ledger → List ℕ → ℕ → ℕ → Bool
 openedAtL L ids i k = opensL L (nth ids i) k
