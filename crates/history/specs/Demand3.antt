@@ -58,8 +58,8 @@ module _ (capacity n : ℕ) (calls : List Call) where
   abbrev L : Ledger
   L = ledgerThen capacity n calls
 
-  abbrev found : ℕ → Reply
-  found id = lookupThen capacity n calls id
+  abbrev lookedUp : ℕ → Reply
+  lookedUp id = lookupThen capacity n calls id
 
   pub record Demand3 : Type 0 where
     -- each call answers with the refusal number, server, value and opened count that the ledger gives
@@ -69,10 +69,10 @@ module _ (capacity n : ℕ) (calls : List Call) where
         → batchReply (stateThen capacity n before .table) (stateThen capacity n before .medium) ids ≡ batchL (ledgerThen capacity n before) ids
     -- a lookup finds the value of the last accepted write of the id with no accepted delete afterwards
     pub finds : (id value server : ℕ) → LastWrite (L .events) id value server
-        → (found id .refusal ≡ 0) × (found id .value ≡ value)
+        → (lookedUp id .refusal ≡ 0) × (lookedUp id .value ≡ value)
     -- and answers 'absent' exactly when there is no such write, once a server is there and for ids in range
     pub absent : (id : ℕ) → id < contentRange → 0 < L .servers
-        → (found id .refusal ≡ 8) ↔ ((value server : ℕ) → LastWrite (L .events) id value server → ⊥)
+        → (lookedUp id .refusal ≡ 8) ↔ ((value server : ℕ) → LastWrite (L .events) id value server → ⊥)
     -- every word that is not blank after some first part of the list stands unaltered after all of it
     pub unaltered : (before later : List Call) → before ++ later ≡ calls → (a : ℕ)
         → nth (after (begin capacity n) before .medium) a ≢ blank

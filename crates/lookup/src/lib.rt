@@ -10,7 +10,7 @@ use limits::CONTENT_RANGE;
 use replies::Check;
 use replies::LookupAnswer;
 use replies::Refusal;
-use search::Found;
+use search::SearchAnswer;
 use table::Columns;
 use table::Shape;
 use table::Table;
@@ -45,10 +45,10 @@ pub fn lookup_in<'a>(shape: Shape, columns: Columns<'a>, medium: &[u32], id: u32
     if let Check::Refused(refusal) = check {
         return LookupAnswer::Refused(refusal, 0);
     }
-    let found = search::find(shape, columns, medium, id);
-    match found {
-        Found::Nowhere(opened) => LookupAnswer::Refused(Refusal::NotFound, opened),
-        Found::At(server, entry, opened) => met(capacity, medium, server, entry, opened),
+    let answer = search::find(shape, columns, medium, id);
+    match answer {
+        SearchAnswer::Nowhere(opened) => LookupAnswer::Refused(Refusal::NotFound, opened),
+        SearchAnswer::At(server, entry, opened) => met(capacity, medium, server, entry, opened),
     }
 }
 

@@ -32,7 +32,7 @@ fn longer(number: u32, digit: u8) -> u32 {
 
 // The numbers up to the line's end, a blank before each: the first blank leads from the last place to the first.
 fn numbers(input: &[u8], from: usize) -> [u32; 8] {
-    let mut found: [u32; 8] = [0; 8];
+    let mut values: [u32; 8] = [0; 8];
     let mut k: usize = 7;
     let mut i = from;
     while i < input.len() {
@@ -43,11 +43,11 @@ fn numbers(input: &[u8], from: usize) -> [u32; 8] {
         if b == b' ' {
             k = (k + 1) % 8;
         } else {
-            found[k] = longer(found[k], b);
+            values[k] = longer(values[k], b);
         }
         i += 1;
     }
-    found
+    values
 }
 
 // The line that begins at a position.
