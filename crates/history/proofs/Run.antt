@@ -33,14 +33,14 @@ use Rattle.history.proofs.Batches.{same-batch}
 abbrev pub Agrees : State → Ledger → Type 0
 Agrees S L = Agree (S .table) (S .medium) L
 
-started : (capacity : ℕ) → firstOf (startRows capacity) ≡ 0 → leb 1 capacity && leb capacity 65536 ≡ true
+start-in-range : (capacity : ℕ) → firstOf (startRows capacity) ≡ 0 → leb 1 capacity && leb capacity 65536 ≡ true
 unfolding startRows
-started capacity z = not-false _ (passed 1 (not (leb 1 capacity && leb capacity 65536)) [] z .0)
+start-in-range capacity z = not-false _ (passed 1 (not (leb 1 capacity && leb capacity 65536)) [] z .0)
 
 pub begin-agrees : (capacity n : ℕ) → firstOf (startRows capacity) ≡ 0 → Agrees (begin capacity n) (freshLedger capacity n)
 unfolding begin startTable freshLedger usedBy placeOf TopAt
 begin-agrees capacity n z =
-    let s = started capacity z in
+    let s = start-in-range capacity z in
     let low = leb-true 1 capacity (and-l (leb 1 capacity) (leb capacity 65536) s) in
     let high = leb-true capacity 65536 (and-r (leb 1 capacity) (leb capacity 65536) s) in
     rw (settle-yes (startRows capacity) (empty capacity) (empty 0) z) (record {

@@ -43,8 +43,8 @@ unfoldable pub runs : ℕ → List ℕ → List ℕ → ℕ
 runs capacity calls replies = settle (startRows capacity) (roomFor (length calls) (length replies)) 0
 
 -- a started table over a lent medium, and the ledger's reply to call i
-abbrev pub started : ℕ → List ℕ → State
-started capacity m = record { table = startTable capacity; medium = m }
+abbrev pub startState : ℕ → List ℕ → State
+startState capacity m = record { table = startTable capacity; medium = m }
 
 unfoldable pub ledgerReplyAt : ℕ → ℕ → List ℕ → ℕ → Compared
 ledgerReplyAt capacity n calls i = ledgerReplyTo (ledgerAfter (freshLedger capacity n) (callsBelow calls i)) (callAt calls i)

@@ -10,7 +10,7 @@ ghost use Rattle.replies.specs.Number.{writeNumber};
 ghost use Rattle.history.specs.Machine.{after};
 ghost use Rattle.encoding.specs.Encoding.{callLength, replyLength};
 ghost use Rattle.encoding.specs.ByNumber.{callOf, replyTo, nextBy, usedAfter};
-ghost use Rattle.replay.specs.Replay.{callsBelow, withReplies, runs, started, replyAt, LedgerWords};
+ghost use Rattle.replay.specs.Replay.{callsBelow, withReplies, runs, startState, replyAt, LedgerWords};
 ghost use Rattle.replay.specs.Lent.{lent, resumes};
 use encoding::AMOUNT_OFFSET;
 use encoding::CALL_LENGTH;
@@ -110,8 +110,8 @@ pub extern "C" fn replay(
     replies: &mut [u32],
 ) -> usize
     ensures number { λ r. ⌜ r ≡ runs capacity (now (calls .entry)) (now (replies .entry)) ⌝ }
-    ensures words { λ r. ⌜ now (medium .exit) ≡ after (started capacity (now (medium .entry))) (callsBelow (now (calls .entry)) r) .medium ⌝ }
-    ensures replies { λ r. ⌜ now (replies .exit) ≡ withReplies (replyAt (started capacity (now (medium .entry))) (now (calls .entry))) r (now (replies .entry)) ⌝ }
+    ensures words { λ r. ⌜ now (medium .exit) ≡ after (startState capacity (now (medium .entry))) (callsBelow (now (calls .entry)) r) .medium ⌝ }
+    ensures replies { λ r. ⌜ now (replies .exit) ≡ withReplies (replyAt (startState capacity (now (medium .entry))) (now (calls .entry))) r (now (replies .entry)) ⌝ }
     ensures ledger { λ r. ⌜ LedgerWords capacity (now (medium .entry)) (now (calls .entry)) r (now (replies .exit)) ⌝ }
 {
     let begun = servers::start(capacity);

@@ -23,7 +23,7 @@ use Rattle.parsing.specs.Line.{lineOf, endBelow, endOf}
 use Rattle.printing.specs.Print.{printed, question, answered}
 use Rattle.printing.proofs.Printing.{decimal-short, length-line}
 use Rattle.sheet.specs.declared.InUse.{InUse}
-use Rattle.sheet.specs.Sheet.{longer, linesOf, Sheet, Done, sheetOf, started, called, lineRun, run, outputOf, roomFor}
+use Rattle.sheet.specs.Sheet.{longer, linesOf, Sheet, Done, sheetOf, startRun, callRun, lineRun, run, outputOf, roomFor}
 
 -- at most 35 bytes a line
 short : (letter refusal a b : ℕ) → length (printed letter refusal a b) ≤ 35
@@ -47,15 +47,15 @@ answered-short number r = byBool (eqb number addServerNumber)
     (λ e. rw (f₁, f₂, f₃, f₄, e) (short (letterOf number) (r .refusal) (r .value) (r .opened)))
     (λ f₅. rw (f₁, f₂, f₃, f₄, f₅) question-short)))))
 
-called-short : (s : Sheet) (o : Option Table) (number subject amount : ℕ) → length (called s o number subject amount .bytes) ≤ 35
-unfolding called
-called-short s none number subject amount = question-short
-called-short s (some t) number subject amount = answered-short number _
+call-short : (s : Sheet) (o : Option Table) (number subject amount : ℕ) → length (callRun s o number subject amount .bytes) ≤ 35
+unfolding callRun
+call-short s none number subject amount = question-short
+call-short s (some t) number subject amount = answered-short number _
 
 line-short : (s : Sheet) (L : Line) → length (lineRun s L .bytes) ≤ 35
-unfolding lineRun started
+unfolding lineRun startRun
 line-short s (line.Start capacity) = short startLetter _ 0 0
-line-short s (line.Call number subject amount) = called-short s (s .table) number subject amount
+line-short s (line.Call number subject amount) = call-short s (s .table) number subject amount
 line-short s line.Unreadable = question-short
 
 -- so a line's end leaves room for the next
