@@ -17,10 +17,10 @@ fn start_anew(capacity: u32, text: &[u8]) -> Table {
 }
 
 fn add_server(table: Table, medium: &[u32], weight: u32, text: &[u8]) -> Table {
-    let placed = servers::add_server(table, medium, weight);
-    let answer = placed.answer;
+    let changed = servers::add_server(table, medium, weight);
+    let answer = changed.answer;
     print::reply(text, replies::server_reply(answer));
-    placed.table
+    changed.table
 }
 
 // This many servers of weight 1, with no reply printed.
@@ -28,18 +28,18 @@ fn add_servers(table: Table, medium: &[u32], n: u32) -> Table {
     let mut next = table;
     let mut i: u32 = 0;
     while i < n {
-        let placed = servers::add_server(next, medium, 1);
-        next = placed.table;
+        let changed = servers::add_server(next, medium, 1);
+        next = changed.table;
         i += 1;
     }
     next
 }
 
 fn reweight(table: Table, server: usize, weight: u32, text: &[u8]) -> Table {
-    let placed = servers::reweight(table, server, weight);
-    let answer = placed.answer;
+    let changed = servers::reweight(table, server, weight);
+    let answer = changed.answer;
     print::reply(text, replies::server_reply(answer));
-    placed.table
+    changed.table
 }
 
 fn write(table: Table, medium: &mut [u32], id: u32, value: u32, text: &[u8]) -> Table {
