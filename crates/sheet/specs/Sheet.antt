@@ -81,5 +81,5 @@ outputOf input m =
     cond (ltb maxInput (length input)) (record { bytes = question; sheet = s }) (run s (linesOf input))
 
 -- bytes of output that an input of n bytes needs at most
-unfoldable pub roomFor : ℕ → ℕ
-roomFor n = cond (ltb maxInput n) (length question) (longestLine * n)
+unfoldable pub outputRoom : ℕ → ℕ
+outputRoom n = cond (ltb maxInput n) (length question) (longestLine * n)

@@ -2,7 +2,7 @@
 ghost use Prim.Native.Nat.{_<_, _≤_};
 ghost use lib.ListN.{length};
 
-pub struct Line {
+pub struct Case {
     pub call: usize,
     pub next: usize,
     pub letter: u8,
@@ -51,20 +51,20 @@ fn numbers(input: &[u8], from: usize) -> [u32; 8] {
 }
 
 // The line that begins at a position.
-pub fn read(input: &[u8], at: usize) -> Line
+pub fn read(input: &[u8], at: usize) -> Case
     requires { ⌜ at < length (now input) ⌝ }
     ensures { λ r. ⌜ (at < r .call) × (at < r .next) × (r .call ≤ length (now (input .entry))) ⌝ }
 {
     let call = after(input, at, b'|');
     if call == input.len() {
-        return Line {
+        return Case {
             call,
             next: call,
             letter: 0,
             numbers: [0; 8],
         };
     }
-    Line {
+    Case {
         call,
         next: after(input, call, b'\n'),
         letter: input[call],
