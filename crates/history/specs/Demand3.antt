@@ -17,7 +17,7 @@ use Rattle.history.specs.Call.{Call, batch, compared}
 use Rattle.history.specs.Machine.{State, refusals, after, replies, begin, liveEntries}
 use Rattle.history.specs.Ledger.{Event, wrote, removed, Ledger, freshLedger, usedBy, writes, batchL, ledgerAfter, ledgerReplies}
 
--- no event of an id among these
+-- none of these events is of the id
 unfoldable pub untouched : ℕ → List Event → Bool
 untouched id [] = true
 untouched id (wrote a value server ∷ older) = not (eqb a id) && untouched id older

@@ -32,7 +32,7 @@ pub record Ledger : Type 0 where
   pub greatest : ℕ → Fraction
   pub events : List Event
 
--- no server, write or delete
+-- a ledger that has no server, write or delete yet
 unfoldable pub freshLedger : ℕ → ℕ → Ledger
 freshLedger capacity words = record {
   capacity = capacity;
@@ -91,7 +91,7 @@ told refusal server value opened = record { refusal = refusal; server = server; 
 unfoldable pub enterBy : Ledger → List Row → Entered → Entered
 enterBy L rows done = settle rows done (record { reply = told (firstOf rows) 0 0 0; ledger = L })
 
--- f with another value at k
+-- f, but for another value at k
 unfoldable pub put : {A : Type 0} → (ℕ → A) → ℕ → A → ℕ → A
 put f k x i = cond (eqb i k) x (f i)
 

@@ -1,5 +1,5 @@
-// Encoded lists of calls, run: on a started table, where the replies are the plain ledger's if the words are blank, and on a
-// table lent as words.
+// This crate runs encoded lists of calls: on a started table, where the replies are the plain ledger's if the words are blank,
+// and on a table lent as words.
 ghost use mathlib.Core.Path.{_≡_};
 ghost use Prim.Native.Nat.{_≤_, _<_, _*_};
 ghost use lib.ListN.{length};
@@ -34,7 +34,7 @@ fn count_in(used: &mut Column, number: u32, reply: Reply)
 }
 
 // Runs the first `n` encoded calls on a table, which stays in one place: only add_server and reweight take it by value. A call
-// and its reply have as many words, so both begin at the same word.
+// has as many words as its reply, so both begin at the same word.
 fn run_calls(
     table: Table,
     calls: &[u32],
@@ -124,7 +124,7 @@ pub extern "C" fn replay(
     n
 }
 
-// Runs encoded calls as replay does, on a table lent as 1,026 words. Where there are fewer, it runs none.
+// Runs encoded calls on a table lent as 1,026 words, and stores the table back. Where there are fewer words, it runs none.
 #[no_mangle]
 pub extern "C" fn resume(
     table: &mut [u32],

@@ -22,7 +22,7 @@ pub struct Changed {
     pub table: Table,
 }
 
-// A table of no server; a table of all zeros where the capacity is refused.
+// Starts a table of no server, or one of all zeros where the capacity is refused.
 pub fn start(capacity: u32) -> Started
     ensures reply { λ r. ⌜ replyOfCheck (r .answer) ≡ startReply capacity ⌝ }
     ensures table { λ r. ⌜ r .table ≡ startTable capacity ⌝ }
@@ -46,7 +46,7 @@ pub fn start(capacity: u32) -> Started
     }
 }
 
-// One server more, of this weight. The medium is only read.
+// Adds a server of this weight. The medium is only read.
 pub fn add_server(table: Table, medium: &[u32], weight: u32) -> Changed
     ensures reply { λ r. ⌜ replyOfServer (r .answer) ≡ addServerReply table (now (medium .entry)) weight ⌝ }
     ensures table { λ r. ⌜ r .table ≡ addServerTable table (now (medium .entry)) weight ⌝ }
@@ -78,7 +78,7 @@ pub fn add_server(table: Table, medium: &[u32], weight: u32) -> Changed
     }
 }
 
-// Another weight for a server. It has no medium.
+// Gives a server another weight. This call has no medium.
 pub fn reweight(table: Table, server: usize, weight: u32) -> Changed
     ensures reply { λ r. ⌜ replyOfServer (r .answer) ≡ reweightReply table server weight ⌝ }
     ensures table { λ r. ⌜ r .table ≡ reweightTable table server weight ⌝ }

@@ -32,7 +32,7 @@ pub record Sheet : Type 0 where
   pub table : Option Table
   pub medium : List ℕ
 
--- as running code holds it
+-- the sheet that running code holds
 unfoldable pub sheetOf : InUse → List ℕ → Sheet
 sheetOf u m = record { table = cond (u .started) (some (u .table)) none; medium = m }
 
@@ -80,6 +80,6 @@ outputOf input m =
     let s : Sheet = record { table = none; medium = m } in
     cond (ltb maxInput (length input)) (record { bytes = question; sheet = s }) (run s (linesOf input))
 
--- bytes of output that an input of n bytes needs at most
+-- how many bytes of output an input of n bytes needs at most
 unfoldable pub outputRoom : ℕ → ℕ
 outputRoom n = cond (ltb maxInput n) (length question) (longestLine * n)

@@ -24,7 +24,7 @@ fn blank_all(words: &mut [u32])
     }
 }
 
-// The question mark of a line that can't be read, or comes before the first accepted S.
+// Prints the question mark of a line that can't be read, or comes before the first accepted S.
 fn ask(in_use: InUse, out: &mut [u8], at: usize) -> AfterLine
     requires { ⌜ at + 2 ≤ length (now out) ⌝ }
     ensures next { λ r. ⌜ r .next ≡ at + length question ⌝ }
@@ -35,7 +35,7 @@ fn ask(in_use: InUse, out: &mut [u8], at: usize) -> AfterLine
     AfterLine { next, in_use }
 }
 
-// A start that is refused keeps the table in use.
+// Runs a start. One that is refused keeps the table in use.
 fn run_start(
     in_use: InUse,
     medium: &mut [u32],
@@ -66,7 +66,7 @@ fn run_start(
     }
 }
 
-// A call by its number; before the first accepted S it is not run.
+// Runs a call by its number; before the first accepted S it is not run.
 fn run_call(
     in_use: InUse,
     medium: &mut [u32],
@@ -119,7 +119,7 @@ fn run_read(in_use: InUse, medium: &mut [u32], line: Line, out: &mut [u8], at: u
     }
 }
 
-// Each number is taken out of the line's bytes, or the line gets its question mark.
+// Runs a line. Each number is taken out of its bytes, or the line gets its question mark.
 pub fn run_line(
     in_use: InUse,
     medium: &mut [u32],

@@ -50,7 +50,7 @@ fn numbers(input: &[u8], from: usize) -> [u32; 8] {
     values
 }
 
-// The line that begins at a position.
+// The case whose line begins at a position.
 pub fn read(input: &[u8], at: usize) -> Case
     requires { ⌜ at < length (now input) ⌝ }
     ensures { λ r. ⌜ (at < r .call) × (at < r .next) × (r .call ≤ length (now (input .entry))) ⌝ }

@@ -7,7 +7,7 @@ pub fn start(capacity: u32) -> Table {
     started.table
 }
 
-// Refusal and capacity.
+// Starts a table and prints refusal and capacity.
 fn start_anew(capacity: u32, text: &[u8]) -> Table {
     let started = servers::start(capacity);
     let answer = started.answer;
@@ -23,7 +23,7 @@ fn add_server(table: Table, medium: &[u32], weight: u32, text: &[u8]) -> Table {
     changed.table
 }
 
-// This many servers of weight 1, with no reply printed.
+// Adds this many servers of weight 1 and prints no reply.
 fn add_servers(table: Table, medium: &[u32], n: u32) -> Table {
     let mut next = table;
     let mut i: u32 = 0;
@@ -89,7 +89,7 @@ fn burn(table: Table, medium: &mut [u32], i: u32, word: u32) -> Table {
     table
 }
 
-// A adds servers with no reply printed, V shows a word; the others are the day sheet's letters.
+// A adds servers and prints no reply, V shows a word; the others are the day sheet's letters.
 fn run_reading(table: Table, medium: &[u32], letter: u8, a: u32, b: u32, text: &[u8]) -> Table {
     match letter {
         b'S' => return start_anew(a, text),
