@@ -60,9 +60,9 @@ module _ (n : ℕ) (table replies order mounts : List ℕ) where
     pub hasOrder : n ≤ length order
     pub hasMounts : 1 ≤ length mounts
 
-  pub they-fit : fitsBatch n table replies order mounts ≡ true → Fits
+  pub long-runs : fitsBatch n table replies order mounts ≡ true → Fits
   unfolding fitsBatch
-  they-fit e =
+  long-runs e =
       let two = and-r (leb tableLength (length table)) _ e in
       let three = and-r (leb (replyLength * n) (length replies)) _ two in
       record {
@@ -145,12 +145,12 @@ Done table m ids replies order mounts number replies′ order′ mounts′ =
     × ((order′ ≡ calledBatch table m ids replies order mounts .order)
     × (mounts′ ≡ calledBatch table m ids replies order mounts .mounts)))
 
-module _ (table m ids replies order mounts : List ℕ) (fit : Bool) (told : fit ≡ fitsBatch (length ids) table replies order mounts) where
-  pub batch-short : fit ≡ false → Done table m ids replies order mounts tooShort replies order mounts
+module _ (table m ids replies order mounts : List ℕ) (long : Bool) (told : long ≡ fitsBatch (length ids) table replies order mounts) where
+  pub batch-short : long ≡ false → Done table m ids replies order mounts tooShort replies order mounts
   unfolding calledBatch
   batch-short e = let f : fitsBatch (length ids) table replies order mounts ≡ false = sym told ∙ e in rw f (refl, (refl, (refl, refl)))
 
-  module _ (yes : fit ≡ true) (b : Batch) (is : b ≡ batchReply (tableFrom table) m ids) where
+  module _ (yes : long ≡ true) (b : Batch) (is : b ≡ batchReply (tableFrom table) m ids) where
     stored : calledBatch table m ids replies order mounts ≡ batchStored table m ids replies order mounts b
     unfolding calledBatch
     stored = let f : fitsBatch (length ids) table replies order mounts ≡ true = sym told ∙ yes in rw (f, is)

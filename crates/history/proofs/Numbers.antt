@@ -3,15 +3,15 @@
 use Prim.Native.Nat.{ℕ, zero, suc, _≤_, _<_}
 use mathlib.Core.Path.{_≡_, refl, sym, ap, _∙_}
 use mathlib.Core.Logic.{_≢_}
-use mathlib.Core.Bool.{Bool, true, not, _&&_}
-use mathlib.Core.List.{List, [], _∷_, _++_}
+use mathlib.Core.Bool.{true, not}
+use mathlib.Core.List.{List, [], _∷_}
 use native.Mathlib.Omega.{arith}
 use lib.Dec.{eqb}
 use lib.ListN.{set}
 use lib.Seq.{getD-set-other}
 use borrow.Author.Tests.{eqb-false, not-true}
 use Rattle.lists.specs.Below.{nth}
-use Rattle.lists.proofs.Tests.{and-l, and-r, at-or-else}
+use Rattle.lists.proofs.Tests.{and-l, and-r}
 use Rattle.table.specs.declared.Table.{Table}
 use Rattle.table.specs.Parts.{weightOf, usedOf}
 use Rattle.upkeep.specs.Upkeep.{withServer, withWeight, oneMore, withEntry}
