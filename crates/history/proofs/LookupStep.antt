@@ -29,7 +29,7 @@ use Rattle.lookup.proofs.Passed.{in-range}
 use Rattle.history.specs.Call.{lookup, compared}
 use Rattle.history.specs.Ledger.{Ledger, Version, usedBy, lastWriteOf, lookupRowsL, openedFrom, lastWriteReply, enter}
 use Rattle.history.proofs.Events.{placeOf, last-came, came-placed, none-placed}
-use Rattle.history.proofs.Holds.{Written}
+use Rattle.history.proofs.Holds.{InEntry}
 use Rattle.history.proofs.Agree.{Agree, Step, settled, same-ready, same-reads, same-met}
 
 module _ {t : Table} {m : List ℕ} {L : Ledger} (A : Agree t m L) (id : ℕ) where
@@ -51,7 +51,7 @@ module _ {t : Table} {m : List ℕ} {L : Ledger} (A : Agree t m L) (id : ℕ) wh
 
   -- the words of the last write
   pub last-write-words : (x : Version) (e : lastWriteOf (L .events) id ≡ some x)
-      → Written (t .capacity) m id (x .value) (x .server) (usedBy (last-came (L .events) id x e .older) (x .server))
+      → InEntry (t .capacity) m id (x .value) (x .server) (usedBy (last-came (L .events) id x e .older) (x .server))
   last-write-words x e = let w = last-came (L .events) id x e in A .holds .written (w .newer) (w .older) id (x .value) (x .server) (w .split)
 
   same-reply : id < contentRange → compared (metReply (t .capacity) m (length (searchFor t m id .opened)) (searchFor t m id .met)) ≡ lastWriteReply L id (lastWriteOf (L .events) id)

@@ -24,7 +24,7 @@ use Rattle.medium.proofs.Entries.{bears-i, bears-id, bears-cong}
 use Rattle.history.specs.Ledger.{Event, wrote, usedBy}
 use Rattle.history.proofs.Tops.{Upto, Top, TopAt, top-cong}
 use Rattle.history.proofs.Events.{placeOf, each-wrote, used-self, used-other, used-grows, wrote-self, wrote-other}
-use Rattle.history.proofs.Holds.{Written, Holds, bears-used, Once, once-blank, once-written}
+use Rattle.history.proofs.Holds.{InEntry, Holds, bears-used, Once, once-blank, once-written}
 use Rattle.history.proofs.MarkedMedium.{Invalidated, invalidated}
 
 -- the medium with the value word and the id word in an entry
@@ -172,7 +172,7 @@ module _ {capacity count : ℕ} {greatest : ℕ → Fraction} {events : List Eve
         beside = λ q. omega (arith, bears-used H id k j (W .small) l i o, ap (usedBy events) q);
       }
 
-  new-written : Written capacity N id value server entry
+  new-written : InEntry capacity N id value server entry
   new-written = record {
     idThere = (rw add-zero at (done .words server entry 0 (W .room) (omega arith))) ∙ id-there;
     valueThere = done .words server entry 1 (W .room) (omega arith) ∙ value-there;
