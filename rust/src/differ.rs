@@ -134,7 +134,11 @@ fn compare_outcomes(proved: &Outcome, rust: &Outcome) -> Result<(), Difference> 
     compare_replies(&proved.replies, &rust.replies)?;
     compare_words("replies", &proved.replies, &rust.replies)?;
     compare_words("medium", &proved.medium, &rust.medium)?;
-    compare_words("table", &fitted(&proved.table), &fitted(&rust.table))?;
+    compare_words(
+        "table",
+        &below_count(&proved.table),
+        &below_count(&rust.table),
+    )?;
     if proved.ran != rust.ran {
         return Err(format!(
             "calls run: proved {}, Rust {}",
@@ -145,7 +149,7 @@ fn compare_outcomes(proved: &Outcome, rust: &Outcome) -> Result<(), Difference> 
 }
 
 /// The words of a table that count: positions at or above its count are left out.
-fn fitted(table: &[u32]) -> Vec<u32> {
+fn below_count(table: &[u32]) -> Vec<u32> {
     if table.len() < TABLE_WORDS {
         return table.to_vec();
     }
@@ -254,7 +258,7 @@ impl Lent {
         compare_outcomes(&proved, &rust).map_err(|text| {
             let capacity = self.table.first().copied().unwrap_or(0);
             let text = described(text, capacity, &self.medium, list);
-            format!("{text}table before: {:?}\n", fitted(&self.table))
+            format!("{text}table before: {:?}\n", below_count(&self.table))
         })?;
         self.table = proved.table;
         self.medium = proved.medium;

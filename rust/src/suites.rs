@@ -15,7 +15,7 @@ type Suite = fn(&mut Random, &mut Tally) -> Result<(), Difference>;
 pub const SUITES: [(&str, Suite, u64); 7] = [
     ("blank media", blank, 40),
     ("damaged media", damaged, 15),
-    ("foreign tables", foreign, 15),
+    ("altered tables", altered, 15),
     ("256 servers", many_servers, 10),
     ("draws on a fraction", on_fraction, 10),
     ("draws next to a fraction", near_fraction, 5),
@@ -75,7 +75,7 @@ fn damaged(random: &mut Random, tally: &mut Tally) -> Result<(), Difference> {
 }
 
 /// Lists over tables that the calls did not leave: older copies, altered ones, any words.
-fn foreign(random: &mut Random, tally: &mut Tally) -> Result<(), Difference> {
+fn altered(random: &mut Random, tally: &mut Tally) -> Result<(), Difference> {
     let shape = Shape::random(random, 6, 6);
     let medium = vec![BLANK; shape.medium_len(random)];
     let table = Table::start(shape.capacity).expect("in range");

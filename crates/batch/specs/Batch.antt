@@ -13,7 +13,7 @@ use Rattle.lookup.specs.Lookup.{lookupRows, lookupReply}
 use Rattle.batch_answer.specs.declared.Batch.{Batch}
 use Rattle.batch_answer.specs.Answer.{batchBy, tooLong, settledBatch}
 
--- a single lookup opens server k: none if it is refused before its search
+-- a single lookup opens server k; one that is refused before its search opens none
 unfoldable pub lookupOpens : Table → List ℕ → ℕ → ℕ → Bool
 lookupOpens t m id k = settle (lookupRows t m id) (opens t m id k) false
 
@@ -32,6 +32,7 @@ batchRows t ids =
 unfoldable pub longNumber : Table → ℕ
 longNumber t = cond (sound t) 2 1
 
+-- the whole answer
 unfoldable pub batchReply : Table → List ℕ → List ℕ → Batch
 batchReply t m ids =
     settledBatch (batchRows t ids)

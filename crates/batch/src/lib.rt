@@ -11,7 +11,7 @@ use table::Columns;
 use table::Shape;
 use table::Table;
 
-// The answer to a list that is too long.
+// Refuses a list that is too long.
 fn refuse_list<'a>(shape: Shape, columns: Columns<'a>) -> Batch
     requires { ⌜ Whole columns ⌝ }
     ensures { λ r. ⌜ r ≡ refusedBatch (longNumber (tableOf shape (columns .entry))) ⌝ }
@@ -22,7 +22,7 @@ fn refuse_list<'a>(shape: Shape, columns: Columns<'a>) -> Batch
     batch_answer::refused_batch(1)
 }
 
-// A batch of lookups on a table by value.
+// Looks a list of ids up on a table by value.
 pub fn lookup_batch(table: Table, medium: &[u32], ids: &[u32]) -> Batch
     ensures { λ r. ⌜ r ≡ batchReply table (now (medium .entry)) (now (ids .entry)) ⌝ }
 {

@@ -1,4 +1,4 @@
-pub mod Found
+pub mod Precedence
 pub mod Filled
 pub mod Orders
 mod Laying

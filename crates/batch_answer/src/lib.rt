@@ -1,4 +1,4 @@
-// The answer to a batch of lookups, put together from plain numbers: no table, no medium and no search.
+// The answer to a batch of lookups, put together from plain numbers: it knows no table, no medium and no search.
 mod ordering;
 
 ghost use mathlib.Core.Path.{_≡_};

@@ -32,14 +32,14 @@ absentSoFar number = cond (eqb number 0) 8 number
 unfoldable pub firstRefusal : ℕ → ℕ → ℕ
 firstRefusal number id = cond (eqb number 1) 1 (cond (leb contentRange id) 2 (absentSoFar number))
 
--- server k is opened for an id, as one of this many: an entry there ends the search
+-- server k is opened for an id, and `opened` is the number of servers opened with it; an entry there ends the search
 unfoldable pub visited : ℕ → List ℕ → ℕ → ℕ → Option ℕ → Progress
 visited capacity m k opened none = record { refusal = 8; value = 0; opened = opened; end = suc k }
 visited capacity m k opened (some j) =
     let r = metReply capacity m opened (some (record { server = k; entry = j })) in
     record { refusal = r .refusal; value = r .value; opened = opened; end = suc k }
 
--- server k with this ReadP and this many entries used: it is opened for an id that is absent so far, if it is read for it
+-- server k, by its ReadP and its used: it is opened if no entry of the id was met yet and it is read for the id
 unfoldable pub stepped : Fraction → ℕ → ℕ → List ℕ → ℕ → ℕ → Progress → Progress
 stepped read capacity used m id k p =
     cond (eqb (p .refusal) 8 && exceeds modulus read (drawOf id k))
@@ -50,7 +50,7 @@ stepped read capacity used m id k p =
 abbrev pub progressAt : Parts → ℕ → Progress
 progressAt parts i = record { refusal = nth (parts .refusals) i; value = nth (parts .values) i; opened = nth (parts .opened) i; end = nth (parts .ends) i }
 
--- before any server is opened, for the first n ids
+-- the parts of the first n ids before any server is opened
 unfoldable pub firstParts : ℕ → List ℕ → ℕ → Parts
 firstParts number ids n = record {
   refusals = filled (λ i. firstRefusal number (nth ids i)) n;
@@ -59,7 +59,7 @@ firstParts number ids n = record {
   ends = replicate maxIds 0;
 }
 
--- the first n parts by f, and the rest as they are
+-- the parts with the first n given by f, and the rest as they are
 unfoldable pub withParts : (ℕ → Progress) → ℕ → Parts → Parts
 withParts f n parts = record {
   refusals = setBelow (λ i. f i .refusal) n (parts .refusals);
@@ -68,7 +68,7 @@ withParts f n parts = record {
   ends = setBelow (λ i. f i .end) n (parts .ends);
 }
 
--- server k for every id
+-- what server k makes of the part at position i, and of every part
 unfoldable pub steppedAt : Fraction → ℕ → ℕ → List ℕ → List ℕ → ℕ → Parts → ℕ → Progress
 steppedAt read capacity used m ids k parts i = stepped read capacity used m (nth ids i) k (progressAt parts i)
 

@@ -15,8 +15,8 @@ enum Newest {
     Nothing,
 }
 
-// How far the lookup of one id in a batch is: its reply so far, refusal 8 while no entry was met, and one more than the last
-// server opened for it, or 0.
+// How far the lookup of one id in a batch is. Its refusal is 8 while no entry was met, and `end` is one more than the last server
+// opened for it, or 0.
 pub struct Progress {
     pub refusal: u32,
     pub value: u32,
@@ -83,7 +83,7 @@ fn newest_on(capacity: u32, used: u32, medium: &[u32], id: u32, server: usize) -
     Newest::Nothing
 }
 
-// One server for one id: it is opened if it is read for an id that is absent so far.
+// Takes one server for one id: it is opened if no entry of the id was met yet and it is read for the id.
 fn step(
     progress: Progress,
     read: Fraction,
@@ -126,7 +126,7 @@ fn step(
     }
 }
 
-// One server for every id.
+// Takes one server for every id.
 pub fn step_all(
     parts: Parts,
     read: Fraction,

@@ -33,7 +33,7 @@ use Rattle.archive.proofs.Small.{lookup-small}
 use Rattle.encoding.specs.Encoding.{replyLength, withReply}
 use Rattle.encoding.specs.ByNumber.{tooShort}
 use Rattle.replay.specs.Replay.{withReplies}
-use Rattle.batch_words.specs.BatchWords.{fitsBatch, batchStored, calledBatch, lookupPart}
+use Rattle.batch_words.specs.BatchWords.{fitsBatch, batchStored, afterBatch, lookupPart}
 
 -- whether the runs are long enough, test by test
 module _ (n : ℕ) (table replies order mounts : List ℕ) where
@@ -60,9 +60,9 @@ module _ (n : ℕ) (table replies order mounts : List ℕ) where
     pub hasOrder : n ≤ length order
     pub hasMounts : 1 ≤ length mounts
 
-  pub they-fit : fitsBatch n table replies order mounts ≡ true → Fits
+  pub long-runs : fitsBatch n table replies order mounts ≡ true → Fits
   unfolding fitsBatch
-  they-fit e =
+  long-runs e =
       let two = and-r (leb tableLength (length table)) _ e in
       let three = and-r (leb (replyLength * n) (length replies)) _ two in
       record {
@@ -140,19 +140,19 @@ replies-same f g (suc n) words h = ap₂ (λ (w : List ℕ) (r : Reply). withRep
 -- what `lookup_batch` ensures where it answers a number
 abbrev pub Done : List ℕ → List ℕ → List ℕ → List ℕ → List ℕ → List ℕ → ℕ → List ℕ → List ℕ → List ℕ → Type 0
 Done table m ids replies order mounts number replies′ order′ mounts′ =
-    (number ≡ calledBatch table m ids replies order mounts .number)
-    × ((replies′ ≡ calledBatch table m ids replies order mounts .replies)
-    × ((order′ ≡ calledBatch table m ids replies order mounts .order)
-    × (mounts′ ≡ calledBatch table m ids replies order mounts .mounts)))
+    (number ≡ afterBatch table m ids replies order mounts .number)
+    × ((replies′ ≡ afterBatch table m ids replies order mounts .replies)
+    × ((order′ ≡ afterBatch table m ids replies order mounts .order)
+    × (mounts′ ≡ afterBatch table m ids replies order mounts .mounts)))
 
-module _ (table m ids replies order mounts : List ℕ) (fit : Bool) (told : fit ≡ fitsBatch (length ids) table replies order mounts) where
-  pub batch-short : fit ≡ false → Done table m ids replies order mounts tooShort replies order mounts
-  unfolding calledBatch
+module _ (table m ids replies order mounts : List ℕ) (long : Bool) (told : long ≡ fitsBatch (length ids) table replies order mounts) where
+  pub batch-short : long ≡ false → Done table m ids replies order mounts tooShort replies order mounts
+  unfolding afterBatch
   batch-short e = let f : fitsBatch (length ids) table replies order mounts ≡ false = sym told ∙ e in rw f (refl, (refl, (refl, refl)))
 
-  module _ (yes : fit ≡ true) (b : Batch) (is : b ≡ batchReply (tableFrom table) m ids) where
-    stored : calledBatch table m ids replies order mounts ≡ batchStored table m ids replies order mounts b
-    unfolding calledBatch
+  module _ (yes : long ≡ true) (b : Batch) (is : b ≡ batchReply (tableFrom table) m ids) where
+    stored : afterBatch table m ids replies order mounts ≡ batchStored table m ids replies order mounts b
+    unfolding afterBatch
     stored = let f : fitsBatch (length ids) table replies order mounts ≡ true = sym told ∙ yes in rw (f, is)
 
     pub batch-refused : b .refusal ≢ 0 → Done table m ids replies order mounts (b .refusal) replies order mounts

@@ -15,21 +15,20 @@ use Rattle.encoding.specs.Encoding.{replyLength}
 use Rattle.encoding.specs.ByNumber.{tooShort}
 use Rattle.replay.specs.Replay.{withReplies}
 
--- a batch of lookups: the number of the list, each id's reply as a lookup of it alone gives it, the order and the mounts
-
-pub record CalledBatch : Type 0 where
+-- what a batch leaves: the number that it answers, and the words of the replies, of the order and of the mounts
+pub record AfterBatch : Type 0 where
   pub number : ℕ
   pub replies : List ℕ
   pub order : List ℕ
   pub mounts : List ℕ
 
--- by the number of the ids
+-- every run is long enough for a batch of n ids
 unfoldable pub fitsBatch : ℕ → List ℕ → List ℕ → List ℕ → List ℕ → Bool
 fitsBatch n table replies order mounts =
     leb tableLength (length table) && (leb (replyLength * n) (length replies) && (leb n (length order) && leb 1 (length mounts)))
 
--- by the whole answer to the list: the words of a refused one are left as lent
-unfoldable pub batchStored : List ℕ → List ℕ → List ℕ → List ℕ → List ℕ → List ℕ → Batch → CalledBatch
+-- what is stored of the answer b to the whole list; a refused list leaves the words as lent
+unfoldable pub batchStored : List ℕ → List ℕ → List ℕ → List ℕ → List ℕ → List ℕ → Batch → AfterBatch
 batchStored table m ids replies order mounts b =
     cond (eqb (b .refusal) 0)
     (record {
@@ -40,8 +39,8 @@ batchStored table m ids replies order mounts b =
     })
     (record { number = b .refusal; replies = replies; order = order; mounts = mounts })
 
-unfoldable pub calledBatch : List ℕ → List ℕ → List ℕ → List ℕ → List ℕ → List ℕ → CalledBatch
-calledBatch table m ids replies order mounts =
+unfoldable pub afterBatch : List ℕ → List ℕ → List ℕ → List ℕ → List ℕ → List ℕ → AfterBatch
+afterBatch table m ids replies order mounts =
     cond (fitsBatch (length ids) table replies order mounts)
     (batchStored table m ids replies order mounts (batchReply (tableFrom table) m ids))
     (record { number = tooShort; replies = replies; order = order; mounts = mounts })

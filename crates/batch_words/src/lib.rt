@@ -6,7 +6,7 @@ ghost use Rattle.limits.specs.Limits.{maxIds};
 ghost use Rattle.lists.specs.Below.{nth, setBelow};
 ghost use Rattle.encoding.specs.Encoding.{replyLength};
 ghost use Rattle.replay.specs.Replay.{withReplies};
-ghost use Rattle.batch_words.specs.BatchWords.{lookupPart, fitsBatch, calledBatch};
+ghost use Rattle.batch_words.specs.BatchWords.{lookupPart, fitsBatch, afterBatch};
 use batch_answer::Batch;
 use encoding::REPLY_LENGTH;
 use limits::MAX_IDS;
@@ -72,10 +72,10 @@ pub fn lookup_batch(
     order: &mut [u32],
     mounts: &mut [u32],
 ) -> u32
-    ensures number { λ r. ⌜ r ≡ calledBatch (now (table .entry)) (now (medium .entry)) (now (ids .entry)) (now (replies .entry)) (now (order .entry)) (now (mounts .entry)) .number ⌝ }
-    ensures replies { λ _. ⌜ now (replies .exit) ≡ calledBatch (now (table .entry)) (now (medium .entry)) (now (ids .entry)) (now (replies .entry)) (now (order .entry)) (now (mounts .entry)) .replies ⌝ }
-    ensures order { λ _. ⌜ now (order .exit) ≡ calledBatch (now (table .entry)) (now (medium .entry)) (now (ids .entry)) (now (replies .entry)) (now (order .entry)) (now (mounts .entry)) .order ⌝ }
-    ensures mounts { λ _. ⌜ now (mounts .exit) ≡ calledBatch (now (table .entry)) (now (medium .entry)) (now (ids .entry)) (now (replies .entry)) (now (order .entry)) (now (mounts .entry)) .mounts ⌝ }
+    ensures number { λ r. ⌜ r ≡ afterBatch (now (table .entry)) (now (medium .entry)) (now (ids .entry)) (now (replies .entry)) (now (order .entry)) (now (mounts .entry)) .number ⌝ }
+    ensures replies { λ _. ⌜ now (replies .exit) ≡ afterBatch (now (table .entry)) (now (medium .entry)) (now (ids .entry)) (now (replies .entry)) (now (order .entry)) (now (mounts .entry)) .replies ⌝ }
+    ensures order { λ _. ⌜ now (order .exit) ≡ afterBatch (now (table .entry)) (now (medium .entry)) (now (ids .entry)) (now (replies .entry)) (now (order .entry)) (now (mounts .entry)) .order ⌝ }
+    ensures mounts { λ _. ⌜ now (mounts .exit) ≡ afterBatch (now (table .entry)) (now (medium .entry)) (now (ids .entry)) (now (replies .entry)) (now (order .entry)) (now (mounts .entry)) .mounts ⌝ }
 {
     let n = ids.len();
     if !fits(table, n, replies, order, mounts) {

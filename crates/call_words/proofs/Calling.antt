@@ -21,7 +21,7 @@ use Rattle.encoding.specs.ByNumber.{callOf, callAt, tooShort, replyTo, nextBy, 
 use Rattle.encoding.proofs.Calling.{counts, called-in}
 use Rattle.replay.specs.Lent.{lent}
 use Rattle.replay.proofs.Lent.{call-count}
-use Rattle.call_words.specs.CallWords.{withColumn, fitsCall, called}
+use Rattle.call_words.specs.CallWords.{withColumn, fitsCall, afterCall}
 use Rattle.call_words.proofs.Columns.{used-stored, length-column}
 
 -- what `run` ensures
@@ -57,14 +57,14 @@ module _ (words m : List ℕ) (number subject amount : ℕ) (l : tableLength ≤
 -- what `call` ensures where it answers n
 abbrev pub Done : List ℕ → List ℕ → List ℕ → List ℕ → ℕ → List ℕ → List ℕ → List ℕ → Type 0
 Done table m call reply n table′ m′ reply′ =
-    (n ≡ called table m call reply .number)
-    × ((table′ ≡ called table m call reply .table)
-    × ((m′ ≡ called table m call reply .medium)
-    × (reply′ ≡ called table m call reply .reply)))
+    (n ≡ afterCall table m call reply .number)
+    × ((table′ ≡ afterCall table m call reply .table)
+    × ((m′ ≡ afterCall table m call reply .medium)
+    × (reply′ ≡ afterCall table m call reply .reply)))
 
 module _ (table m call reply : List ℕ) where
   call-short : fitsCall table call reply ≡ false → Done table m call reply tooShort table m reply
-  unfolding called
+  unfolding afterCall
   call-short e = rw e (refl, (refl, (refl, refl)))
 
   pub table-short : length table < tableLength → Done table m call reply tooShort table m reply
@@ -86,6 +86,6 @@ module _ (table m call reply : List ℕ) where
       → m′ ≡ nextBy (lent table m) (callAt call 0) .medium
       → reply′ ≡ withReplyAt reply 0 r
       → Done table m call reply (r .refusal) table′ m′ reply′
-  unfolding called fitsCall
+  unfolding afterCall fitsCall
   call-done a b d r table′ m′ reply′ e f g h =
       rw (le-leb _ _ a, le-leb _ _ b, le-leb _ _ d) (ap (λ (x : Reply). x .refusal) e, (f, (g, h ∙ ap (withReplyAt reply 0) e)))

@@ -12,7 +12,7 @@ use Rattle.encoding.specs.ByNumber.{callAt, tooShort, replyTo, nextBy}
 use Rattle.replay.specs.Lent.{lent}
 
 -- the refusal number, and table, medium and reply after the call
-pub record Called : Type 0 where
+pub record AfterCall : Type 0 where
   pub number : ℕ
   pub table : List ℕ
   pub medium : List ℕ
@@ -22,8 +22,8 @@ unfoldable pub fitsCall : List ℕ → List ℕ → List ℕ → Bool
 fitsCall table call reply = leb tableLength (length table) && (leb callLength (length call) && leb replyLength (length reply))
 
 -- the call is the one at the front of its words
-unfoldable pub called : List ℕ → List ℕ → List ℕ → List ℕ → Called
-called table m call reply =
+unfoldable pub afterCall : List ℕ → List ℕ → List ℕ → List ℕ → AfterCall
+afterCall table m call reply =
     let S = lent table m in
     let r = replyTo S (callAt call 0) in
     let after = nextBy S (callAt call 0) in

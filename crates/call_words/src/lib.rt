@@ -9,7 +9,7 @@ ghost use Rattle.table.specs.Words.{usedOffset, tableLength, columnFrom, withTa
 ghost use Rattle.replies.specs.Number.{addServerNumber, reweightNumber, writeNumber};
 ghost use Rattle.encoding.specs.ByNumber.{callOf, replyTo, nextBy, usedAfter};
 ghost use Rattle.replay.specs.Lent.{lent};
-ghost use Rattle.call_words.specs.CallWords.{withColumn, called};
+ghost use Rattle.call_words.specs.CallWords.{withColumn, afterCall};
 use encoding::AMOUNT_OFFSET;
 use encoding::CALL_LENGTH;
 use encoding::NUMBER_OFFSET;
@@ -75,10 +75,10 @@ fn run(table: &mut [u32], medium: &mut [u32], number: u32, subject: u32, amount:
 
 // Runs the call at the front of its words, stores its reply and answers its refusal number.
 pub fn call(table: &mut [u32], medium: &mut [u32], call: &[u32], reply: &mut [u32]) -> u32
-    ensures number { λ r. ⌜ r ≡ called (now (table .entry)) (now (medium .entry)) (now (call .entry)) (now (reply .entry)) .number ⌝ }
-    ensures table { λ _. ⌜ now (table .exit) ≡ called (now (table .entry)) (now (medium .entry)) (now (call .entry)) (now (reply .entry)) .table ⌝ }
-    ensures medium { λ _. ⌜ now (medium .exit) ≡ called (now (table .entry)) (now (medium .entry)) (now (call .entry)) (now (reply .entry)) .medium ⌝ }
-    ensures reply { λ _. ⌜ now (reply .exit) ≡ called (now (table .entry)) (now (medium .entry)) (now (call .entry)) (now (reply .entry)) .reply ⌝ }
+    ensures number { λ r. ⌜ r ≡ afterCall (now (table .entry)) (now (medium .entry)) (now (call .entry)) (now (reply .entry)) .number ⌝ }
+    ensures table { λ _. ⌜ now (table .exit) ≡ afterCall (now (table .entry)) (now (medium .entry)) (now (call .entry)) (now (reply .entry)) .table ⌝ }
+    ensures medium { λ _. ⌜ now (medium .exit) ≡ afterCall (now (table .entry)) (now (medium .entry)) (now (call .entry)) (now (reply .entry)) .medium ⌝ }
+    ensures reply { λ _. ⌜ now (reply .exit) ≡ afterCall (now (table .entry)) (now (medium .entry)) (now (call .entry)) (now (reply .entry)) .reply ⌝ }
 {
     if table.len() < TABLE_LENGTH {
         return encoding::TOO_SHORT;

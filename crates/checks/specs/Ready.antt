@@ -1,5 +1,5 @@
--- The refusals that write, delete and lookup share (document 01's table), as rows in the order of the tests: the table, the range
--- of the arguments, a server, and enough words. t is the table and m the medium as lent.
+-- The refusals that write, delete, lookup and a batch share (document 01's table), as rows in the order of the tests: the table,
+-- the range of the arguments, a server, and enough words. t is the table and m the medium as lent.
 use Prim.Native.Nat.{ℕ}
 use mathlib.Core.Bool.{Bool, not}
 use mathlib.Core.List.{List, [], _∷_}
@@ -10,7 +10,7 @@ use Rattle.table.specs.declared.Table.{Table}
 use Rattle.table.specs.Sound.{sound}
 use Rattle.replies.specs.Refusal.{Row, _when_}
 
--- fewer words than the servers have
+-- the medium has fewer words than the servers
 unfoldable pub short : Table → List ℕ → Bool
 short t m = ltb (length m) (serverAt (t .capacity) (t .count))
 

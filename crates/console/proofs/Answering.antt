@@ -8,7 +8,7 @@ use lib.ListN.{length, take}
 use Rattle.printing.specs.Print.{question}
 use Rattle.streams.specs.declared.Read.{Read}
 use Rattle.streams.specs.declared.Read.the-variants as read
-use Rattle.sheet.specs.Sheet.{outputOf, roomFor}
+use Rattle.sheet.specs.Sheet.{outputOf, outputRoom}
 use Rattle.sheet.proofs.Sheets.{room-enough, output-fits}
 use Rattle.console.specs.Console.{answerTo}
 
@@ -19,7 +19,7 @@ answer-fits (read.Bytes n) input m = output-fits (take n input) m _ _ refl (room
 answer-fits read.Failed input m = omega arith
 
 module _ (l : ℕ) (h : 2293760 ≤ l) where
-  pub room-lent : (n : ℕ) → roomFor n ≤ l
+  pub room-lent : (n : ℕ) → outputRoom n ≤ l
   room-lent n = omega (arith, room-enough n)
 
   pub answer-inside : (r : Read) (input m : List ℕ) (n : ℕ) → n ≡ length (answerTo r input m .bytes) → n ≤ l

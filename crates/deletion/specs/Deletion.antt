@@ -17,6 +17,7 @@ use Rattle.checks.specs.Ready.{readyRows}
 use Rattle.search.specs.Search.{Place, searchFor}
 use Rattle.invalidation.specs.Marks.{marksFrom}
 
+-- the search meets an entry
 unfoldable pub isMet : Option Place → Bool
 isMet none = false
 isMet (some p) = true

@@ -11,7 +11,7 @@ use table::Columns;
 use table::Shape;
 use table::Table;
 
-// Delete on a table whose columns are borrowed.
+// Deletes an id on a table whose columns are borrowed.
 pub fn delete_in<'a>(
     shape: Shape,
     columns: Columns<'a>,
@@ -33,7 +33,7 @@ pub fn delete_in<'a>(
     DeleteAnswer::Deleted(n)
 }
 
-// Delete on a table by value.
+// Deletes an id on a table by value.
 pub fn delete(table: Table, medium: &mut [u32], id: u32) -> DeleteAnswer
     ensures reply { λ r. ⌜ replyOfDelete r ≡ deleteReply table (now (medium .entry)) id ⌝ }
     ensures medium { λ _. ⌜ now (medium .exit) ≡ deleteMedium table (now (medium .entry)) id ⌝ }

@@ -26,7 +26,7 @@ use Rattle.history.specs.Machine.{State, next, after, begin}
 use Rattle.encoding.specs.Encoding.{callLength}
 use Rattle.encoding.specs.ByNumber.{callAt, nextBy}
 use Rattle.replay.specs.Lent.{lent}
-use Rattle.call_words.specs.CallWords.{fitsCall, called}
+use Rattle.call_words.specs.CallWords.{fitsCall, afterCall}
 use Rattle.call_words.proofs.Columns.{length-column}
 use Rattle.embed.specs.Sequence.{Runs, unanswered, afterCalls, callIn, joined, callsOf}
 
@@ -68,14 +68,14 @@ module _ (R : Runs) (call : List ℕ) (l : tableLength ≤ length (R .table)) wh
 
   -- the runs after it
   abbrev R′ : Runs
-  R′ = let done = called (R .table) (R .medium) call unanswered in record { table = done .table; medium = done .medium }
+  R′ = let done = afterCall (R .table) (R .medium) call unanswered in record { table = done .table; medium = done .medium }
 
   made : leb callLength (length call) ≡ true → (R′ .table ≡ withTable (R .table) (nextBy S (callAt call 0) .table)) × (R′ .medium ≡ nextBy S (callAt call 0) .medium)
-  unfolding called fitsCall
+  unfolding afterCall fitsCall
   made e = rw (le-leb tableLength (length (R .table)) l, e) (refl, refl)
 
   refused : leb callLength (length call) ≡ false → (R′ .table ≡ R .table) × (R′ .medium ≡ R .medium)
-  unfolding called fitsCall
+  unfolding afterCall fitsCall
   refused e = rw (le-leb tableLength (length (R .table)) l, e) (refl, refl)
 
   one-call : (lent (R′ .table) (R′ .medium) ≡ nextBy S (callIn call)) × (tableLength ≤ length (R′ .table))

@@ -9,7 +9,7 @@ use lib.Dec.{leb}
 use Rattle.history.specs.Call.{Call}
 use Rattle.encoding.specs.Encoding.{callLength, replyLength}
 use Rattle.encoding.specs.ByNumber.{callAt}
-use Rattle.call_words.specs.CallWords.{called}
+use Rattle.call_words.specs.CallWords.{afterCall}
 
 -- table and medium as words
 pub record Runs : Type 0 where
@@ -23,7 +23,7 @@ unanswered = replicate replyLength 0
 unfoldable pub afterCalls : Runs → List (List ℕ) → Runs
 afterCalls R [] = R
 afterCalls R (call ∷ calls) =
-    let done = called (R .table) (R .medium) call unanswered in
+    let done = afterCall (R .table) (R .medium) call unanswered in
     afterCalls (record { table = done .table; medium = done .medium }) calls
 
 -- the call that these words are: none where they are too few, or no call

@@ -8,10 +8,10 @@ ghost use Rattle.picks.specs.Picks.{picksOf};
 ghost use Rattle.table.specs.Words.{tableLength, withTable};
 ghost use Rattle.servers.specs.Servers.{startTable};
 ghost use Rattle.history.specs.Machine.{after};
-ghost use Rattle.replay.specs.Replay.{callsBelow, withReplies, runs, started, replyAt, LedgerWords};
+ghost use Rattle.replay.specs.Replay.{callsBelow, withReplies, runs, startState, replyAt, LedgerWords};
 ghost use Rattle.replay.specs.Lent.{lent, resumes};
-ghost use Rattle.call_words.specs.CallWords.{called};
-ghost use Rattle.batch_words.specs.BatchWords.{calledBatch};
+ghost use Rattle.call_words.specs.CallWords.{afterCall};
+ghost use Rattle.batch_words.specs.BatchWords.{afterBatch};
 ghost use Rattle.embed.specs.Embed.{version, startNumber};
 
 // The version of the interface: it grows when a signature or an encoding changes.
@@ -55,10 +55,10 @@ pub extern "C" fn archive_call(
     call: &[u32],
     reply: &mut [u32],
 ) -> u32
-    ensures number { λ r. ⌜ r ≡ called (now (table .entry)) (now (medium .entry)) (now (call .entry)) (now (reply .entry)) .number ⌝ }
-    ensures table { λ _. ⌜ now (table .exit) ≡ called (now (table .entry)) (now (medium .entry)) (now (call .entry)) (now (reply .entry)) .table ⌝ }
-    ensures medium { λ _. ⌜ now (medium .exit) ≡ called (now (table .entry)) (now (medium .entry)) (now (call .entry)) (now (reply .entry)) .medium ⌝ }
-    ensures reply { λ _. ⌜ now (reply .exit) ≡ called (now (table .entry)) (now (medium .entry)) (now (call .entry)) (now (reply .entry)) .reply ⌝ }
+    ensures number { λ r. ⌜ r ≡ afterCall (now (table .entry)) (now (medium .entry)) (now (call .entry)) (now (reply .entry)) .number ⌝ }
+    ensures table { λ _. ⌜ now (table .exit) ≡ afterCall (now (table .entry)) (now (medium .entry)) (now (call .entry)) (now (reply .entry)) .table ⌝ }
+    ensures medium { λ _. ⌜ now (medium .exit) ≡ afterCall (now (table .entry)) (now (medium .entry)) (now (call .entry)) (now (reply .entry)) .medium ⌝ }
+    ensures reply { λ _. ⌜ now (reply .exit) ≡ afterCall (now (table .entry)) (now (medium .entry)) (now (call .entry)) (now (reply .entry)) .reply ⌝ }
 {
     call_words::call(table, medium, call, reply)
 }
@@ -72,8 +72,8 @@ pub extern "C" fn archive_replay(
     replies: &mut [u32],
 ) -> usize
     ensures number { λ r. ⌜ r ≡ runs capacity (now (calls .entry)) (now (replies .entry)) ⌝ }
-    ensures words { λ r. ⌜ now (medium .exit) ≡ after (started capacity (now (medium .entry))) (callsBelow (now (calls .entry)) r) .medium ⌝ }
-    ensures replies { λ r. ⌜ now (replies .exit) ≡ withReplies (replyAt (started capacity (now (medium .entry))) (now (calls .entry))) r (now (replies .entry)) ⌝ }
+    ensures words { λ r. ⌜ now (medium .exit) ≡ after (startState capacity (now (medium .entry))) (callsBelow (now (calls .entry)) r) .medium ⌝ }
+    ensures replies { λ r. ⌜ now (replies .exit) ≡ withReplies (replyAt (startState capacity (now (medium .entry))) (now (calls .entry))) r (now (replies .entry)) ⌝ }
     ensures ledger { λ r. ⌜ LedgerWords capacity (now (medium .entry)) (now (calls .entry)) r (now (replies .exit)) ⌝ }
 {
     replay::replay(capacity, calls, medium, replies)
@@ -114,10 +114,10 @@ pub extern "C" fn archive_lookup_batch(
     order: &mut [u32],
     mounts: &mut [u32],
 ) -> u32
-    ensures number { λ r. ⌜ r ≡ calledBatch (now (table .entry)) (now (medium .entry)) (now (ids .entry)) (now (replies .entry)) (now (order .entry)) (now (mounts .entry)) .number ⌝ }
-    ensures replies { λ _. ⌜ now (replies .exit) ≡ calledBatch (now (table .entry)) (now (medium .entry)) (now (ids .entry)) (now (replies .entry)) (now (order .entry)) (now (mounts .entry)) .replies ⌝ }
-    ensures order { λ _. ⌜ now (order .exit) ≡ calledBatch (now (table .entry)) (now (medium .entry)) (now (ids .entry)) (now (replies .entry)) (now (order .entry)) (now (mounts .entry)) .order ⌝ }
-    ensures mounts { λ _. ⌜ now (mounts .exit) ≡ calledBatch (now (table .entry)) (now (medium .entry)) (now (ids .entry)) (now (replies .entry)) (now (order .entry)) (now (mounts .entry)) .mounts ⌝ }
+    ensures number { λ r. ⌜ r ≡ afterBatch (now (table .entry)) (now (medium .entry)) (now (ids .entry)) (now (replies .entry)) (now (order .entry)) (now (mounts .entry)) .number ⌝ }
+    ensures replies { λ _. ⌜ now (replies .exit) ≡ afterBatch (now (table .entry)) (now (medium .entry)) (now (ids .entry)) (now (replies .entry)) (now (order .entry)) (now (mounts .entry)) .replies ⌝ }
+    ensures order { λ _. ⌜ now (order .exit) ≡ afterBatch (now (table .entry)) (now (medium .entry)) (now (ids .entry)) (now (replies .entry)) (now (order .entry)) (now (mounts .entry)) .order ⌝ }
+    ensures mounts { λ _. ⌜ now (mounts .exit) ≡ afterBatch (now (table .entry)) (now (medium .entry)) (now (ids .entry)) (now (replies .entry)) (now (order .entry)) (now (mounts .entry)) .mounts ⌝ }
 {
     batch_words::lookup_batch(table, medium, ids, replies, order, mounts)
 }

@@ -17,7 +17,7 @@ use replies::LOOKUP;
 use replies::REWEIGHT;
 use replies::Reply;
 use replies::WRITE;
-use servers::Placed;
+use servers::Changed;
 use table::Columns;
 use table::Shape;
 use table::Table;
@@ -39,12 +39,12 @@ pub struct Ran {
     pub table: Table,
 }
 
-fn from_placed(placed: Placed) -> Ran
-    ensures reply { λ r. ⌜ r .reply ≡ replyOfServer (placed .answer) ⌝ }
-    ensures table { λ r. ⌜ r .table ≡ placed .table ⌝ }
+fn from_changed(changed: Changed) -> Ran
+    ensures reply { λ r. ⌜ r .reply ≡ replyOfServer (changed .answer) ⌝ }
+    ensures table { λ r. ⌜ r .table ≡ changed .table ⌝ }
 {
-    let answer = placed.answer;
-    let table = placed.table;
+    let answer = changed.answer;
+    let table = changed.table;
     Ran {
         reply: replies::server_reply(answer),
         table,
@@ -107,8 +107,8 @@ pub fn run_change(table: Table, medium: &mut [u32], number: u32, subject: u32, a
     ensures medium { λ _. ⌜ now (medium .exit) ≡ nextBy (record { table = table; medium = now (medium .entry) }) (callOf number subject amount) .medium ⌝ }
 {
     match number {
-        ADD_SERVER => from_placed(servers::add_server(table, medium, amount)),
-        REWEIGHT => from_placed(servers::reweight(table, subject as usize, amount)),
+        ADD_SERVER => from_changed(servers::add_server(table, medium, amount)),
+        REWEIGHT => from_changed(servers::reweight(table, subject as usize, amount)),
         _ => Ran {
             reply: no_call(),
             table,

@@ -54,7 +54,7 @@ module _ {capacity count : ℕ} {greatest : ℕ → Fraction} {events : List Eve
         (λ d. H .free k j q (omega (arith, eqb-false k count d)) u i b);
     fits = H .fits;
     noneAbove = λ k l. H .noneAbove k (omega arith);
-    stands = H .stands;
+    written = H .written;
     opens = λ id k j n l i b. byBool (eqb k count)
         (λ d. absurd (not-borne id j n i (rw (eqb-true k count d) at b)))
         (λ d.

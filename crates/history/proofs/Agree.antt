@@ -114,7 +114,7 @@ module _ {t : Table} {m : List ℕ} {L : Ledger} (A : Agree t m L) where
       → marksOver (t .capacity) (usedOf t) m id p (t .count) ≡ marksOver (t .capacity) (usedBy (L .events)) m id q (t .count)
   same-marks id p q h = marksOver-cong (t .capacity) (usedOf t) (usedBy (L .events)) m m id p q (t .count) h (A .used) (λ k j l i. record { idSame = refl; markSame = refl })
 
-  -- the search meets the top entry that bears the id, which is that of the write that stands
+  -- the search meets the top entry that bears the id, which is that of its last write
   abbrev B : ℕ → ℕ → ℕ → Bool
   B id k j = bears (t .capacity) m id k j
 

@@ -17,15 +17,15 @@ use Rattle.batch.specs.Batch.{lookupOpens, openedAt, batchReply, batchRows}
 use Rattle.batch_answer.specs.Answer.{tooLong}
 use Rattle.replies.specs.Refusal.{firstOf}
 use Rattle.history.specs.Call.{Compared, compared}
-use Rattle.history.specs.Ledger.{Event, Ledger, Standing, standing, lookupRowsL, enter, standsFrom, opensL, openedAtL, batchL, batchRowsL}
-use Rattle.history.proofs.Events.{placeOf, stands-placed, none-placed}
+use Rattle.history.specs.Ledger.{Event, Ledger, Version, lastWriteOf, lookupRowsL, enter, lowestL, opensL, openedAtL, batchL, batchRowsL}
+use Rattle.history.proofs.Events.{placeOf, came-placed, none-placed}
 use Rattle.history.proofs.Agree.{Agree, same-reads, same-met}
 use Rattle.history.proofs.LookupStep.{same-rows, lookup-step}
 
-lowest-from : (events : List Event) (id : ℕ) (o : Option Standing) → standing events id ≡ o → lowest (placeOf events id) ≡ standsFrom o
-unfolding lowest standsFrom
+lowest-from : (events : List Event) (id : ℕ) (o : Option Version) → lastWriteOf events id ≡ o → lowest (placeOf events id) ≡ lowestL o
+unfolding lowest lowestL
 lowest-from events id none e = rw (none-placed events id e)
-lowest-from events id (some x) e = rw (stands-placed events id x e)
+lowest-from events id (some x) e = rw (came-placed events id x e)
 
 module _ {t : Table} {m : List ℕ} {L : Ledger} (A : Agree t m L) where
   -- a lookup opens the same servers
@@ -33,7 +33,7 @@ module _ {t : Table} {m : List ℕ} {L : Ledger} (A : Agree t m L) where
   unfolding lookupOpens opensL opens
   same-opens id k l = settle-both (lookupRows t m id) (lookupRowsL L id) (same-rows A id) (_≡_ {A = Bool}) _ _ false false
       (λ z.
-      ap₂ (λ (from : ℕ) (b : Bool). leb from k && b) (ap lowest (same-met A id (in-range t m id z)) ∙ lowest-from (L .events) id (standing (L .events) id) refl) (same-reads A id k l))
+      ap₂ (λ (from : ℕ) (b : Bool). leb from k && b) (ap lowest (same-met A id (in-range t m id z)) ∙ lowest-from (L .events) id (lastWriteOf (L .events) id) refl) (same-reads A id k l))
       refl
 
   pub same-batch : (ids : List ℕ) → batchReply t m ids ≡ batchL L ids

@@ -11,7 +11,7 @@ use Rattle.lists.proofs.Tests.{byBool}
 use Rattle.lists.proofs.Below.{total-cong, countBelow-le, total-mono}
 use Rattle.table.specs.Parts.{usedOf}
 use Rattle.history.specs.Machine.{State, liveForItsId, liveEntries}
-use Rattle.history.specs.Ledger.{Event, wrote, deleted, Ledger, usedBy, writes}
+use Rattle.history.specs.Ledger.{Event, wrote, removed, Ledger, usedBy, writes}
 use Rattle.history.proofs.Agree.{Agree}
 
 -- a sum with one more at one place
@@ -31,7 +31,7 @@ used-writes : (events : List Event) (n : ℕ) → total (usedBy events) n ≤ wr
 unfolding usedBy writes
 used-writes [] n = total-zero n
 used-writes (wrote id value server ∷ older) n = omega (arith, one-more server (usedBy older) n, used-writes older n)
-used-writes (deleted id ∷ older) n = used-writes older n
+used-writes (removed id ∷ older) n = used-writes older n
 
 pub live-writes : (S : State) (L : Ledger) → Agree (S .table) (S .medium) L → liveEntries S ≤ writes (L .events)
 unfolding liveEntries

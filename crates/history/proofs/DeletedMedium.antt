@@ -12,25 +12,25 @@ use Rattle.limits.specs.Limits.{contentRange}
 use Rattle.lists.proofs.Tests.{byBool, iff-eq, except}
 use Rattle.placement.specs.declared.Fraction.{Fraction}
 use Rattle.placement.specs.Rule.{readable}
-use Rattle.medium.specs.Word.{deleted as deletedMark}
+use Rattle.medium.specs.Word.{deleted}
 use Rattle.medium.specs.Entry.{bears}
 use Rattle.medium.specs.Burn.{burnAll, marksOver, invalidations}
-use Rattle.history.specs.Ledger.{Event, deleted, usedBy}
+use Rattle.history.specs.Ledger.{Event, removed, usedBy}
 use Rattle.history.proofs.Tops.{TopAt, top-cong}
-use Rattle.history.proofs.Events.{placeOf, each-deleted, deleted-self, deleted-other}
+use Rattle.history.proofs.Events.{placeOf, each-removed, removed-self, removed-other}
 use Rattle.history.proofs.Holds.{Holds, once-written}
 use Rattle.history.proofs.MarkedMedium.{Invalidated, invalidated}
 
 -- the medium with every entry of the id on readable servers invalidated
 abbrev pub afterDelete : ℕ → ℕ → (ℕ → Fraction) → List Event → List ℕ → ℕ → List ℕ
-afterDelete capacity count greatest events m id = burnAll m (invalidations deletedMark (marksOver capacity (usedBy events) m id (readable greatest id) count))
+afterDelete capacity count greatest events m id = burnAll m (invalidations deleted (marksOver capacity (usedBy events) m id (readable greatest id) count))
 
 module _ {capacity count : ℕ} {greatest : ℕ → Fraction} {events : List Event} {m : List ℕ} (H : Holds capacity count greatest events m) (id : ℕ) (small : id < contentRange) where
   abbrev N : List ℕ
   N = afterDelete capacity count greatest events m id
 
   done : Invalidated capacity count events m id (readable greatest id) m N
-  done = invalidated H id small (readable greatest id) m refl (λ k j q l u b. refl) deletedMark (omega arith)
+  done = invalidated H id small (readable greatest id) m refl (λ k j q l u b. refl) deleted (omega arith)
 
   none-left : (k j : ℕ) → k < count → j < capacity → bears capacity N id k j ≡ true → ⊥
   none-left k j l i b = let o = done .less id k j i b in done .gone k j l i (H .opens id k j small l i o) o b
@@ -42,12 +42,12 @@ module _ {capacity count : ℕ} {greatest : ℕ → Fraction} {events : List Eve
       (done .less a k j i)
       (λ d b. done .others a k j l i (λ e. eqb-false id a d (sym e)) b)
 
-  others-stand : (a : ℕ) → a < contentRange → a ≢ id → TopAt (bears capacity N a) count capacity (placeOf events a)
-  others-stand a n f = top-cong (bears capacity m a) (bears capacity N a) count capacity
+  others-kept : (a : ℕ) → a < contentRange → a ≢ id → TopAt (bears capacity N a) count capacity (placeOf events a)
+  others-kept a n f = top-cong (bears capacity m a) (bears capacity N a) count capacity
       (λ k j l i. iff-eq _ _ (done .less a k j i) (done .others a k j l i f))
       (placeOf events a) (H .tops a n)
 
-  pub delete-holds : Holds capacity count greatest (deleted id ∷ events) N
+  pub delete-holds : Holds capacity count greatest (removed id ∷ events) N
   unfolding usedBy placeOf TopAt
   delete-holds = record {
     long = omega (arith, H .long, done .long);
@@ -55,9 +55,9 @@ module _ {capacity count : ℕ} {greatest : ℕ → Fraction} {events : List Eve
     free = λ k j q l u i b. done .free k j q u i b ∙ H .free k j q l u i b;
     fits = H .fits;
     noneAbove = H .noneAbove;
-    stands = each-deleted _ (λ newer older a v k e. once-written m N (done .once) (H .stands newer older a v k e));
+    written = each-removed _ (λ newer older a v k e. once-written m N (done .once) (H .written newer older a v k e));
     opens = λ a k j n l i b. H .opens a k j n l i (done .less a k j i b);
     tops = λ a n. byBool (eqb a id)
-        (λ d. rw (eqb-true a id d, deleted-self id events) (record { off = none-left }))
-        (λ d. rw (deleted-other id a events (eqb-false a id d)) (others-stand a n (eqb-false a id d)));
+        (λ d. rw (eqb-true a id d, removed-self id events) (record { off = none-left }))
+        (λ d. rw (removed-other id a events (eqb-false a id d)) (others-kept a n (eqb-false a id d)));
   }

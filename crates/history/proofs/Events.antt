@@ -1,4 +1,4 @@
--- Laws of the ledger's events alone: a server's used, each write's own entry, and the write that stands.
+-- Laws of the ledger's events alone: a server's used, each write's own entry, and an id's last write.
 -- Assumes nothing.
 use Prim.Native.Nat.{ℕ, suc, _≤_, _<_}
 use mathlib.Core.Path.{_≡_, refl, sym, ap, _∙_}
@@ -12,18 +12,18 @@ use lib.Dec.{eqb}
 use borrow.Author.Tests.{not-true, eqb-true, eq-eqb, ne-eqb}
 use Rattle.lists.proofs.Tests.{byBool, and-l, and-r}
 use Rattle.search.specs.Search.{Place}
-use Rattle.history.specs.Ledger.{Event, wrote, deleted, Standing, usedBy, standing}
+use Rattle.history.specs.Ledger.{Event, wrote, removed, Version, usedBy, lastWriteOf}
 use Rattle.history.specs.Demand3.{untouched, LastWrite}
 
 -- where a write has its entry, which is the server's used before it
 abbrev pub placeAfter : List Event → ℕ → Place
 placeAfter older server = record { server = server; entry = usedBy older server }
 
--- where the write of an id that stands has its entry; the ledger keeps no entries, so the events tell it
+-- where the last write of an id has its entry; the ledger keeps no entries, so the events tell it
 unfoldable pub placeOf : List Event → ℕ → Option Place
 placeOf [] id = none
 placeOf (wrote a value server ∷ older) id = cond (eqb a id) (some (placeAfter older server)) (placeOf older id)
-placeOf (deleted a ∷ older) id = cond (eqb a id) none (placeOf older id)
+placeOf (removed a ∷ older) id = cond (eqb a id) none (placeOf older id)
 
 -- what holds of each write among the events, with those newer and those older
 abbrev pub EachWrite : List Event → ((newer older : List Event) (id value server : ℕ) → Type 0) → Type 0
@@ -47,10 +47,10 @@ module _ (P : (newer older : List Event) (id value server : ℕ) → Type 0) whe
       let y : wrote a v k ≡ x = cc in
       rw (← y) (old newer older id value server (tail-eq-of-cons-eq e))
 
-  pub each-deleted : {events : List Event} {a : ℕ} → EachWrite events (λ newer. P (deleted a ∷ newer)) → EachWrite (deleted a ∷ events) P
-  each-deleted old [] older id value server e = let z : _≡_ {A = ℕ} 0 1 = cc in absurd (omega arith)
-  each-deleted {events} {a} old (x ∷ newer) older id value server e =
-      let y : deleted a ≡ x = cc in
+  pub each-removed : {events : List Event} {a : ℕ} → EachWrite events (λ newer. P (removed a ∷ newer)) → EachWrite (removed a ∷ events) P
+  each-removed old [] older id value server e = let z : _≡_ {A = ℕ} 0 1 = cc in absurd (omega arith)
+  each-removed {events} {a} old (x ∷ newer) older id value server e =
+      let y : removed a ≡ x = cc in
       rw (← y) (old newer older id value server (tail-eq-of-cons-eq e))
 
 module _ (id value server : ℕ) (older : List Event) where
@@ -71,7 +71,7 @@ used-after : (newer older : List Event) (id value server : ℕ) → usedBy older
 unfolding usedBy
 used-after [] older id value server = omega (arith, used-self id value server older)
 used-after (wrote a v k ∷ newer) older id value server = omega (arith, used-after newer older id value server)
-used-after (deleted a ∷ newer) older id value server = used-after newer older id value server
+used-after (removed a ∷ newer) older id value server = used-after newer older id value server
 
 pub used-write : (events : List Event) → EachWrite events (λ newer older id value server. usedBy older server < usedBy events server)
 used-write events newer older id value server e = rw e (used-after newer older id value server)
@@ -88,27 +88,27 @@ own-entry (x ∷ newer) [] older older′ id value id′ value′ server e u =
 own-entry (x ∷ newer) (y ∷ newer′) older older′ id value id′ value′ server e u =
     own-entry newer newer′ older older′ id value id′ value′ server (tail-eq-of-cons-eq e) u
 
--- what stands is the last write, in its own entry
+-- the last write by recursion is the one in words, in its own entry
 module _ (id value server : ℕ) (older : List Event) where
-  stood : (newer : List Event) → untouched id newer ≡ true
-      → standing (newer ++ (wrote id value server ∷ older)) id ≡ some (record { value = value; server = server })
-  unfolding standing untouched
-  stood [] c = rw (eq-eqb id id refl)
-  stood (wrote a v k ∷ newer) c = rw (not-true (eqb a id) (and-l (not (eqb a id)) (untouched id newer) c)) (stood newer (and-r (not (eqb a id)) (untouched id newer) c))
-  stood (deleted a ∷ newer) c = rw (not-true (eqb a id) (and-l (not (eqb a id)) (untouched id newer) c)) (stood newer (and-r (not (eqb a id)) (untouched id newer) c))
+  newest-written : (newer : List Event) → untouched id newer ≡ true
+      → lastWriteOf (newer ++ (wrote id value server ∷ older)) id ≡ some (record { value = value; server = server })
+  unfolding lastWriteOf untouched
+  newest-written [] c = rw (eq-eqb id id refl)
+  newest-written (wrote a v k ∷ newer) c = rw (not-true (eqb a id) (and-l (not (eqb a id)) (untouched id newer) c)) (newest-written newer (and-r (not (eqb a id)) (untouched id newer) c))
+  newest-written (removed a ∷ newer) c = rw (not-true (eqb a id) (and-l (not (eqb a id)) (untouched id newer) c)) (newest-written newer (and-r (not (eqb a id)) (untouched id newer) c))
 
-  placed : (newer : List Event) → untouched id newer ≡ true → placeOf (newer ++ (wrote id value server ∷ older)) id ≡ some (placeAfter older server)
+  newest-placed : (newer : List Event) → untouched id newer ≡ true → placeOf (newer ++ (wrote id value server ∷ older)) id ≡ some (placeAfter older server)
   unfolding placeOf untouched
-  placed [] c = rw (eq-eqb id id refl)
-  placed (wrote a v k ∷ newer) c = rw (not-true (eqb a id) (and-l (not (eqb a id)) (untouched id newer) c)) (placed newer (and-r (not (eqb a id)) (untouched id newer) c))
-  placed (deleted a ∷ newer) c = rw (not-true (eqb a id) (and-l (not (eqb a id)) (untouched id newer) c)) (placed newer (and-r (not (eqb a id)) (untouched id newer) c))
+  newest-placed [] c = rw (eq-eqb id id refl)
+  newest-placed (wrote a v k ∷ newer) c = rw (not-true (eqb a id) (and-l (not (eqb a id)) (untouched id newer) c)) (newest-placed newer (and-r (not (eqb a id)) (untouched id newer) c))
+  newest-placed (removed a ∷ newer) c = rw (not-true (eqb a id) (and-l (not (eqb a id)) (untouched id newer) c)) (newest-placed newer (and-r (not (eqb a id)) (untouched id newer) c))
 
 module _ (events : List Event) (id value server : ℕ) (w : LastWrite events id value server) where
-  pub last-stands : standing events id ≡ some (record { value = value; server = server })
-  last-stands = ap (λ (h : List Event). standing h id) (w .split) ∙ stood id value server (w .older) (w .newer) (w .clear)
+  pub last-written : lastWriteOf events id ≡ some (record { value = value; server = server })
+  last-written = ap (λ (h : List Event). lastWriteOf h id) (w .split) ∙ newest-written id value server (w .older) (w .newer) (w .clear)
 
   last-placed : placeOf events id ≡ some (placeAfter (w .older) server)
-  last-placed = ap (λ (h : List Event). placeOf h id) (w .split) ∙ placed id value server (w .older) (w .newer) (w .clear)
+  last-placed = ap (λ (h : List Event). placeOf h id) (w .split) ∙ newest-placed id value server (w .older) (w .newer) (w .clear)
 
 -- and back
 last-on : (e : Event) (events : List Event) (id value server : ℕ) → ((l : List Event) → untouched id (e ∷ l) ≡ untouched id l)
@@ -116,31 +116,31 @@ last-on : (e : Event) (events : List Event) (id value server : ℕ) → ((l : Li
 last-on e events id value server u l =
     record { newer = e ∷ l .newer; older = l .older; split = ap (λ (h : List Event). e ∷ h) (l .split); clear = u (l .newer) ∙ l .clear }
 
-pub stands-came : (events : List Event) (id : ℕ) (x : Standing) → standing events id ≡ some x → LastWrite events id (x .value) (x .server)
-unfolding standing untouched
-stands-came [] id x e = let z : _≡_ {A = ℕ} 0 1 = cc in absurd (omega arith)
-stands-came (wrote a v k ∷ older) id x e = byBool (eqb a id)
+pub last-came : (events : List Event) (id : ℕ) (x : Version) → lastWriteOf events id ≡ some x → LastWrite events id (x .value) (x .server)
+unfolding lastWriteOf untouched
+last-came [] id x e = let z : _≡_ {A = ℕ} 0 1 = cc in absurd (omega arith)
+last-came (wrote a v k ∷ older) id x e = byBool (eqb a id)
     (λ d.
     let q : some (record { value = v; server = k }) ≡ some x = rw d at e in
     let y : record { value = v; server = k } ≡ x = cc in
     rw (← y, ← (eqb-true a id d)) (record { newer = []; older = older; split = refl; clear = refl }))
-    (λ d. last-on (wrote a v k) older id (x .value) (x .server) (λ l. rw d) (stands-came older id x (rw d at e)))
-stands-came (deleted a ∷ older) id x e = byBool (eqb a id)
+    (λ d. last-on (wrote a v k) older id (x .value) (x .server) (λ l. rw d) (last-came older id x (rw d at e)))
+last-came (removed a ∷ older) id x e = byBool (eqb a id)
     (λ d. let r : none ≡ some x = rw d at e in let z : _≡_ {A = ℕ} 0 1 = cc in absurd (omega arith))
-    (λ d. last-on (deleted a) older id (x .value) (x .server) (λ l. rw d) (stands-came older id x (rw d at e)))
+    (λ d. last-on (removed a) older id (x .value) (x .server) (λ l. rw d) (last-came older id x (rw d at e)))
 
-pub stands-placed : (events : List Event) (id : ℕ) (x : Standing) (e : standing events id ≡ some x)
-    → placeOf events id ≡ some (placeAfter (stands-came events id x e .older) (x .server))
-stands-placed events id x e = last-placed events id (x .value) (x .server) (stands-came events id x e)
+pub came-placed : (events : List Event) (id : ℕ) (x : Version) (e : lastWriteOf events id ≡ some x)
+    → placeOf events id ≡ some (placeAfter (last-came events id x e .older) (x .server))
+came-placed events id x e = last-placed events id (x .value) (x .server) (last-came events id x e)
 
--- where no write stands, none has a place
-pub none-placed : (events : List Event) (id : ℕ) → standing events id ≡ none → placeOf events id ≡ none
-unfolding standing placeOf
+-- an id without a last write has no place
+pub none-placed : (events : List Event) (id : ℕ) → lastWriteOf events id ≡ none → placeOf events id ≡ none
+unfolding lastWriteOf placeOf
 none-placed [] id e = refl
 none-placed (wrote a v k ∷ older) id e = byBool (eqb a id)
     (λ d. let r : some (record { value = v; server = k }) ≡ none = rw d at e in let z : _≡_ {A = ℕ} 0 1 = cc in absurd (omega arith))
     (λ d. rw d (none-placed older id (rw d at e)))
-none-placed (deleted a ∷ older) id e = byBool (eqb a id) (λ d. rw d) (λ d. rw d (none-placed older id (rw d at e)))
+none-placed (removed a ∷ older) id e = byBool (eqb a id) (λ d. rw d) (λ d. rw d (none-placed older id (rw d at e)))
 
 -- after a write
 pub wrote-self : (id value server : ℕ) (older : List Event) → placeOf (wrote id value server ∷ older) id ≡ some (placeAfter older server)
@@ -152,10 +152,10 @@ unfolding placeOf
 wrote-other id value server a older f = rw (ne-eqb id a (λ e. f (sym e)))
 
 -- after a delete
-pub deleted-self : (id : ℕ) (older : List Event) → placeOf (deleted id ∷ older) id ≡ none
+pub removed-self : (id : ℕ) (older : List Event) → placeOf (removed id ∷ older) id ≡ none
 unfolding placeOf
-deleted-self id older = rw (eq-eqb id id refl)
+removed-self id older = rw (eq-eqb id id refl)
 
-pub deleted-other : (id a : ℕ) (older : List Event) → a ≢ id → placeOf (deleted id ∷ older) a ≡ placeOf older a
+pub removed-other : (id a : ℕ) (older : List Event) → a ≢ id → placeOf (removed id ∷ older) a ≡ placeOf older a
 unfolding placeOf
-deleted-other id a older f = rw (ne-eqb id a (λ e. f (sym e)))
+removed-other id a older f = rw (ne-eqb id a (λ e. f (sym e)))

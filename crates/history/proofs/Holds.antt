@@ -23,7 +23,7 @@ use Rattle.history.proofs.Tops.{TopAt}
 use Rattle.history.proofs.Events.{placeOf, EachWrite, used-write}
 
 -- entry j of a server has the words of a write
-pub record Written (capacity : ℕ) (m : List ℕ) (id value server j : ℕ) : Type 0 where
+pub record InEntry (capacity : ℕ) (m : List ℕ) (id value server j : ℕ) : Type 0 where
   pub idThere : nth m (entryAt capacity server j) ≡ idWord id
   pub valueThere : nth m (valueAt capacity server j) ≡ valueWord value
   pub idSmall : id < contentRange
@@ -37,8 +37,8 @@ pub record Holds (capacity count : ℕ) (greatest : ℕ → Fraction) (events : 
   pub free : (k j q : ℕ) → k < count → usedBy events k ≤ j → j < capacity → q < 3 → nth m (entryAt capacity k j + q) ≡ blank
   pub fits : (k : ℕ) → usedBy events k ≤ capacity
   pub noneAbove : (k : ℕ) → count ≤ k → usedBy events k ≡ 0
-  -- each write stands in its entry
-  pub stands : EachWrite events (λ newer older id value server. Written capacity m id value server (usedBy older server))
+  -- each write has its words in its entry
+  pub written : EachWrite events (λ newer older id value server. InEntry capacity m id value server (usedBy older server))
   -- what bears an id is readable for it, and the top one is that of its last write
   pub opens : (id k j : ℕ) → id < contentRange → k < count → j < capacity → bears capacity m id k j ≡ true → readable greatest id k ≡ true
   pub tops : (id : ℕ) → id < contentRange → TopAt (bears capacity m id) count capacity (placeOf events id)
@@ -69,8 +69,8 @@ module _ (m N : List ℕ) (once : Once m N) where
       (λ d. eqb-true (nth m a) blank d)
       (λ d. sym (once a (eqb-false (nth m a) blank d)) ∙ e)
 
-  -- so a write goes on standing
-  pub once-written : {capacity id value server j : ℕ} → Written capacity m id value server j → Written capacity N id value server j
+  -- so the words of a write stay
+  pub once-written : {capacity id value server j : ℕ} → InEntry capacity m id value server j → InEntry capacity N id value server j
   once-written {capacity} {id} {value} {server} {j} w = record {
     idThere = once (entryAt capacity server j) (λ e. omega (arith, w .idThere, w .idSmall)) ∙ w .idThere;
     valueThere = once (valueAt capacity server j) (λ e. omega (arith, w .valueThere, w .valueSmall)) ∙ w .valueThere;

@@ -10,7 +10,7 @@ use borrow.Author.Tests.{lt-ltb, le-ltb, leb-true, leb-false}
 use Rattle.limits.specs.Limits.{contentRange}
 use Rattle.lists.proofs.Tests.{byBool}
 use Rattle.placement.specs.declared.Fraction.{Fraction}
-use Rattle.medium.specs.Word.{deleted as deletedMark}
+use Rattle.medium.specs.Word.{deleted}
 use Rattle.medium.specs.Entry.{bears, live}
 use Rattle.medium.specs.Burn.{burnAll, invalidations}
 use Rattle.table.specs.declared.Table.{Table}
@@ -23,10 +23,10 @@ use Rattle.writing.specs.Writing.{writeBurns, writeMedium}
 use Rattle.servers.specs.Servers.{startRows}
 use Rattle.history.specs.Call.{Call, addServer, reweight, write, delete, lookup, batch}
 use Rattle.history.specs.Machine.{State, next, after, begin}
-use Rattle.history.specs.Ledger.{Event, wrote, deleted, Ledger, Entered, enterBy, opening, usedBy, addServerRowsL, withServerL, reweightRowsL, withWeightL, withEvent, writeRowsL, deleteRowsL, lookupRowsL, enter, ledgerAfter}
+use Rattle.history.specs.Ledger.{Event, wrote, removed, Ledger, Entered, enterBy, freshLedger, usedBy, addServerRowsL, withServerL, reweightRowsL, withWeightL, withEvent, writeRowsL, deleteRowsL, lookupRowsL, enter, ledgerAfter}
 use Rattle.history.specs.Demand3.{stateThen, ledgerThen}
-use Rattle.history.specs.LiveRule.{stays, LiveRule}
-use Rattle.history.proofs.Events.{EachWrite, each-none, each-wrote, each-deleted, used-write}
+use Rattle.history.specs.LiveRule.{staysLive, LiveRule}
+use Rattle.history.proofs.Events.{EachWrite, each-none, each-wrote, each-removed, used-write}
 use Rattle.history.proofs.Entering.{entered}
 use Rattle.history.proofs.Holds.{Holds, write-there}
 use Rattle.history.proofs.DeletedMedium.{afterDelete, borne}
@@ -36,9 +36,9 @@ use Rattle.history.proofs.WriteStep.{same-rows as same-write, accepted,
 use Rattle.history.proofs.DeleteStep.{same-rows as same-delete, accepted-id, delete-medium}
 use Rattle.history.proofs.Run.{Agrees, begin-agrees, step, run}
 
--- each write's entry bears its id exactly when it stays
+-- each write's entry bears its id exactly when the later events leave it so
 abbrev Ruled : ℕ → List Event → List ℕ → Type 0
-Ruled capacity events m = EachWrite events (λ newer older id value server. bears capacity m id server (usedBy older server) ≡ stays id server newer)
+Ruled capacity events m = EachWrite events (λ newer older id value server. bears capacity m id server (usedBy older server) ≡ staysLive id server newer)
 
 -- one event more
 not-taken : (id a server k : ℕ) → not (eqb id a && leb server k) ≡ not (eqb id a) || ltb k server
@@ -51,16 +51,16 @@ not-taken id a server k = byBool (eqb id a)
 module _ {capacity count : ℕ} {greatest : ℕ → Fraction} {events : List Event} {m : List ℕ} (H : Holds capacity count greatest events m) (R : Ruled capacity events m) where
   write-ruled : {id value server : ℕ} → Accepted capacity count greatest events id value server
       → Ruled capacity (wrote id value server ∷ events) (afterWrite capacity count greatest events m id value server)
-  unfolding stays
+  unfolding staysLive
   write-ruled {id} {value} {server} W = each-wrote _ (new-borne H W) (λ newer older a v k e.
       old-borne H W a k (usedBy older k) (write-there H newer older a v k e) (used-write events newer older a v k e)
-      ∙ rw (R newer older a v k e, not-taken id a server k) (and-comm (stays a k newer) (not (eqb id a) || ltb k server)))
+      ∙ rw (R newer older a v k e, not-taken id a server k) (and-comm (staysLive a k newer) (not (eqb id a) || ltb k server)))
 
-  delete-ruled : (id : ℕ) → id < contentRange → Ruled capacity (deleted id ∷ events) (afterDelete capacity count greatest events m id)
-  unfolding stays
-  delete-ruled id small = each-deleted _ (λ newer older a v k e.
+  delete-ruled : (id : ℕ) → id < contentRange → Ruled capacity (removed id ∷ events) (afterDelete capacity count greatest events m id)
+  unfolding staysLive
+  delete-ruled id small = each-removed _ (λ newer older a v k e.
       borne H id small a k (usedBy older k) (write-there H newer older a v k e) (omega (arith, H .fits k, used-write events newer older a v k e))
-      ∙ rw (R newer older a v k e) (and-comm (stays a k newer) (not (eqb id a))))
+      ∙ rw (R newer older a v k e) (and-comm (staysLive a k newer) (not (eqb id a))))
 
 -- the same of a ledger
 abbrev Rules : Ledger → List ℕ → Type 0
@@ -94,9 +94,9 @@ module _ {t : Table} {m : List ℕ} {L : Ledger} (A : Agree t m L) (R : Rules L 
 
   delete-rules : (id : ℕ) → Rules (enter L (delete id) .ledger) (deleteMedium t m id)
   unfolding enter withEvent deleteMedium
-  delete-rules id = settled-rules L m R (deleteRows t m id) (deleteRowsL L id) (same-delete A id) _ (burnAll m (invalidations deletedMark (deleteMarks t m id)))
+  delete-rules id = settled-rules L m R (deleteRows t m id) (deleteRowsL L id) (same-delete A id) _ (burnAll m (invalidations deleted (deleteMarks t m id)))
       (λ z. rw (delete-medium A id)
-      (subst (λ (c : ℕ). Ruled c (deleted id ∷ L .events) (afterDelete (t .capacity) (t .count) (L .greatest) (L .events) m id)) (A .capacity)
+      (subst (λ (c : ℕ). Ruled c (removed id ∷ L .events) (afterDelete (t .capacity) (t .count) (L .greatest) (L .events) m id)) (A .capacity)
       (delete-ruled (A .holds) table-ruled id (accepted-id A id z))))
 
 next-rules : (S : State) (L : Ledger) → Agrees S L → Rules L (S .medium) → (c : Call) → Rules (enter L c .ledger) (next S c .medium)
@@ -113,8 +113,8 @@ unfolding after ledgerAfter
 run-rules [] S L A R = R
 run-rules (c ∷ calls) S L A R = run-rules calls (next S c) (enter L c .ledger) (step S L A c .agrees) (next-rules S L A R c)
 
-begin-rules : (capacity n : ℕ) → Rules (opening capacity n) (begin capacity n .medium)
-unfolding opening
+begin-rules : (capacity n : ℕ) → Rules (freshLedger capacity n) (begin capacity n .medium)
+unfolding freshLedger
 begin-rules capacity n = each-none _
 
 pub live-rule : (capacity n : ℕ) → firstOf (startRows capacity) ≡ 0 → (calls : List Call) → LiveRule capacity n calls
@@ -123,10 +123,10 @@ live-rule capacity n z calls =
     let S = stateThen capacity n calls in
     let L = ledgerThen capacity n calls in
     let B = begin-agrees capacity n z in
-    let A : Agrees (stateThen capacity n calls) (ledgerThen capacity n calls) = run calls (begin capacity n) (opening capacity n) B .agrees in
+    let A : Agrees (stateThen capacity n calls) (ledgerThen capacity n calls) = run calls (begin capacity n) (freshLedger capacity n) B .agrees in
     record {
       rule = λ newer older id value server e.
           let there = write-there (A .holds) newer older id value server e in
           rw (lt-ltb (usedBy older server) (usedOf (S .table) server) (omega (arith, A .used server there, used-write (L .events) newer older id value server e)))
-          (table-ruled A (run-rules calls (begin capacity n) (opening capacity n) B (begin-rules capacity n)) newer older id value server e);
+          (table-ruled A (run-rules calls (begin capacity n) (freshLedger capacity n) B (begin-rules capacity n)) newer older id value server e);
     }

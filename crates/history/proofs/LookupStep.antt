@@ -27,9 +27,9 @@ use Rattle.search.specs.Opened.{lowest, opens}
 use Rattle.search.proofs.Searches.{opened-are}
 use Rattle.lookup.proofs.Passed.{in-range}
 use Rattle.history.specs.Call.{lookup, compared}
-use Rattle.history.specs.Ledger.{Ledger, Standing, usedBy, standing, lookupRowsL, openedFrom, standingReply, enter}
-use Rattle.history.proofs.Events.{placeOf, stands-came, stands-placed, none-placed}
-use Rattle.history.proofs.Holds.{Written}
+use Rattle.history.specs.Ledger.{Ledger, Version, usedBy, lastWriteOf, lookupRowsL, openedFrom, lastWriteReply, enter}
+use Rattle.history.proofs.Events.{placeOf, last-came, came-placed, none-placed}
+use Rattle.history.proofs.Holds.{InEntry}
 use Rattle.history.proofs.Agree.{Agree, Step, settled, same-ready, same-reads, same-met}
 
 module _ {t : Table} {m : List ℕ} {L : Ledger} (A : Agree t m L) (id : ℕ) where
@@ -49,25 +49,25 @@ module _ {t : Table} {m : List ℕ} {L : Ledger} (A : Agree t m L) (id : ℕ) wh
   unfolding opens
   opened-number = opened-are t m id .number ∙ same-opened (lowest (searchFor t m id .met))
 
-  -- the words of the write that stands
-  pub stands-written : (x : Standing) (e : standing (L .events) id ≡ some x)
-      → Written (t .capacity) m id (x .value) (x .server) (usedBy (stands-came (L .events) id x e .older) (x .server))
-  stands-written x e = let w = stands-came (L .events) id x e in A .holds .stands (w .newer) (w .older) id (x .value) (x .server) (w .split)
+  -- the words of the last write
+  pub last-write-words : (x : Version) (e : lastWriteOf (L .events) id ≡ some x)
+      → InEntry (t .capacity) m id (x .value) (x .server) (usedBy (last-came (L .events) id x e .older) (x .server))
+  last-write-words x e = let w = last-came (L .events) id x e in A .holds .written (w .newer) (w .older) id (x .value) (x .server) (w .split)
 
-  same-reply : id < contentRange → compared (metReply (t .capacity) m (length (searchFor t m id .opened)) (searchFor t m id .met)) ≡ standingReply L id (standing (L .events) id)
-  unfolding compared metReply standingReply lowest
+  same-reply : id < contentRange → compared (metReply (t .capacity) m (length (searchFor t m id .opened)) (searchFor t m id .met)) ≡ lastWriteReply L id (lastWriteOf (L .events) id)
+  unfolding compared metReply lastWriteReply lowest
   same-reply n =
       ap₂ (λ (o : ℕ) (p : Option Place). compared (metReply (t .capacity) m o p)) (opened-number ∙ ap (λ (p : Option Place). openedFrom L id (lowest p)) (same-met A id n)) (same-met A id n)
-      ∙ go (standing (L .events) id) refl
+      ∙ go (lastWriteOf (L .events) id) refl
     where
-      go : (o : Option Standing) → standing (L .events) id ≡ o
-          → compared (metReply (t .capacity) m (openedFrom L id (lowest (placeOf (L .events) id))) (placeOf (L .events) id)) ≡ standingReply L id o
+      go : (o : Option Version) → lastWriteOf (L .events) id ≡ o
+          → compared (metReply (t .capacity) m (openedFrom L id (lowest (placeOf (L .events) id))) (placeOf (L .events) id)) ≡ lastWriteReply L id o
       go none e = rw (none-placed (L .events) id e)
       go (some x) e =
-          let w = stands-written x e in
+          let w = last-write-words x e in
           let tag : tagOf (valueWord (x .value)) ≡ 1 = omega (arith, w .valueSmall) in
           let content : contentOf (valueWord (x .value)) ≡ x .value = omega (arith, w .valueSmall) in
-          rw (stands-placed (L .events) id x e, w .valueThere, tag, content)
+          rw (came-placed (L .events) id x e, w .valueThere, tag, content)
 
   pub lookup-step : Step (lookupReply t m id) t m (enter L (lookup id))
   unfolding lookupReply enter
@@ -80,7 +80,7 @@ module _ {t : Table} {m : List ℕ} {L : Ledger} (A : Agree t m L) (id : ℕ) wh
   unfolding firstOf lookupRows readyRows short
   not-refused n l = rw (A .isSound, lt-leb contentRange id n, ne-eqb (t .count) 0 (λ e. omega arith), le-ltb (length m) (serverAt (t .capacity) (t .count)) (A .holds .long))
 
-  pub looked : id < contentRange → 0 < t .count → compared (lookupReply t m id) ≡ standingReply L id (standing (L .events) id)
+  pub looked : id < contentRange → 0 < t .count → compared (lookupReply t m id) ≡ lastWriteReply L id (lastWriteOf (L .events) id)
   unfolding lookupReply replyBy
   looked n l =
       let s = searchFor t m id in

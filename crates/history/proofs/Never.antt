@@ -18,7 +18,7 @@ use Rattle.batch_answer.specs.Answer.{batchBy, tooLong, settledBatch}
 use Rattle.batch_answer.proofs.Filled.{filled-each}
 use Rattle.history.specs.Call.{Call, addServer, reweight, write, delete, lookup, batch, Compared, compared}
 use Rattle.history.specs.Machine.{State, reply, idRefusals, refusals}
-use Rattle.history.specs.Ledger.{Ledger, Standing, Entered, standing, enterBy, addServerRowsL, reweightRowsL, readyRowsL, writeRowsL, deleteRowsL, lookupRowsL, standingReply, lookupL, batchRowsL, batchL, enter}
+use Rattle.history.specs.Ledger.{Ledger, Version, Entered, lastWriteOf, enterBy, addServerRowsL, reweightRowsL, readyRowsL, writeRowsL, deleteRowsL, lookupRowsL, lastWriteReply, lookupL, batchRowsL, batchL, enter}
 use Rattle.history.proofs.Entering.{entered}
 use Rattle.history.proofs.Batches.{same-batch}
 use Rattle.history.proofs.Run.{Agrees, step}
@@ -50,10 +50,10 @@ first-usual (r ∷ rows) u = byBool (r .applies)
 entered-usual : (L : Ledger) (rows : List Row) (done : Entered) → usualRows rows ≡ true → usual (done .reply .refusal) ≡ true → usual (enterBy L rows done .reply .refusal) ≡ true
 entered-usual L rows done u v = entered (λ e. usual (e .reply .refusal) ≡ true) L rows done (λ z. v) (λ f. first-usual rows u)
 
-standing-usual : (L : Ledger) (id : ℕ) (o : Option Standing) → usual (standingReply L id o .refusal) ≡ true
-unfolding standingReply usual
-standing-usual L id none = refl
-standing-usual L id (some x) = refl
+last-write-usual : (L : Ledger) (id : ℕ) (o : Option Version) → usual (lastWriteReply L id o .refusal) ≡ true
+unfolding lastWriteReply usual
+last-write-usual L id none = refl
+last-write-usual L id (some x) = refl
 
 batch-usual : (L : Ledger) (ids : List ℕ) → usual (batchL L ids .refusal) ≡ true
 unfolding batchL batchBy settledBatch batchRowsL tooLong settle firstOf usual
@@ -65,7 +65,7 @@ enter-usual L (addServer weight) = entered-usual L (addServerRowsL L weight) _ r
 enter-usual L (reweight server weight) = entered-usual L (reweightRowsL L server weight) _ refl refl
 enter-usual L (write id value) = entered-usual L (writeRowsL L id value) _ refl refl
 enter-usual L (delete id) = entered-usual L (deleteRowsL L id) _ refl refl
-enter-usual L (lookup id) = entered-usual L (lookupRowsL L id) _ refl (standing-usual L id (standing (L .events) id))
+enter-usual L (lookup id) = entered-usual L (lookupRowsL L id) _ refl (last-write-usual L id (lastWriteOf (L .events) id))
 enter-usual L (batch ids) = batch-usual L ids
 
 -- each id of a batch has the refusal of its lookup

@@ -3,15 +3,15 @@
 use Prim.Native.Nat.{ℕ, zero, suc, _≤_, _<_}
 use mathlib.Core.Path.{_≡_, refl, sym, ap, _∙_}
 use mathlib.Core.Logic.{_≢_}
-use mathlib.Core.Bool.{Bool, true, not, _&&_}
-use mathlib.Core.List.{List, [], _∷_, _++_}
+use mathlib.Core.Bool.{true, not}
+use mathlib.Core.List.{List, [], _∷_}
 use native.Mathlib.Omega.{arith}
 use lib.Dec.{eqb}
 use lib.ListN.{set}
 use lib.Seq.{getD-set-other}
 use borrow.Author.Tests.{eqb-false, not-true}
 use Rattle.lists.specs.Below.{nth}
-use Rattle.lists.proofs.Tests.{and-l, and-r, at-or-else}
+use Rattle.lists.proofs.Tests.{and-l, and-r}
 use Rattle.table.specs.declared.Table.{Table}
 use Rattle.table.specs.Parts.{weightOf, usedOf}
 use Rattle.upkeep.specs.Upkeep.{withServer, withWeight, oneMore, withEntry}
@@ -26,7 +26,7 @@ use Rattle.servers.specs.Servers.{startRows, addServerRows, addServerReply, add
 use Rattle.servers.proofs.Accepted.{addServer-accepted}
 use Rattle.history.specs.Call.{Call, addServer, reweight, write, delete, lookup, batch}
 use Rattle.history.specs.Machine.{State, reply, next, after, begin}
-use Rattle.history.specs.Ledger.{opening}
+use Rattle.history.specs.Ledger.{freshLedger}
 use Rattle.history.specs.Numbers.{weightLeft, SameServer, Added}
 use Rattle.history.proofs.Run.{begin-agrees, run}
 
@@ -130,7 +130,7 @@ server-numbered capacity n z before weight e =
     let S = after (begin capacity n) before in
     let t = S .table in
     let rows = addServerRows t (S .medium) weight in
-    let A = run before (begin capacity n) (opening capacity n) (begin-agrees capacity n z) .agrees in
+    let A = run before (begin capacity n) (freshLedger capacity n) (begin-agrees capacity n z) .agrees in
     let y : firstOf rows ≡ 0 = sym (reply-number rows _ refl) ∙ e in
     let w = withServer-is t weight (A .arrays) (addServer-accepted t (S .medium) weight y .few) in
     let table : addServerTable t (S .medium) weight ≡ withServer t weight = settle-yes rows _ t y in

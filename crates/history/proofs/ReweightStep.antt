@@ -78,7 +78,7 @@ module _ {t : Table} {m : List ℕ} {L : Ledger} (A : Agree t m L) (server weigh
           free = H .free;
           fits = H .fits;
           noneAbove = H .noneAbove;
-          stands = H .stands;
+          written = H .written;
           opens = λ id k j n l i b. still-readable id k l (H .opens id k j n l i b);
           tops = H .tops;
         }

@@ -1,4 +1,4 @@
--- A started table over blank words agrees with the opened ledger, and every list of calls keeps them in agreement.
+-- A started table over blank words agrees with the fresh ledger, and every list of calls keeps them in agreement.
 -- Assumes nothing.
 use Prim.Native.Nat.{ℕ}
 use mathlib.Core.Path.{_≡_, refl, ap, ap₂}
@@ -19,7 +19,7 @@ use Rattle.servers.specs.Servers.{startRows, startTable}
 use Rattle.batch_answer.specs.declared.Batch.{Batch}
 use Rattle.history.specs.Call.{Call, addServer, reweight, write, delete, lookup, batch, Compared, compared}
 use Rattle.history.specs.Machine.{State, inBrief, reply, next, after, replies, begin}
-use Rattle.history.specs.Ledger.{Ledger, opening, usedBy, enter, ledgerAfter, ledgerReplies}
+use Rattle.history.specs.Ledger.{Ledger, freshLedger, usedBy, enter, ledgerAfter, ledgerReplies}
 use Rattle.history.proofs.Tops.{TopAt}
 use Rattle.history.proofs.Events.{placeOf, each-none}
 use Rattle.history.proofs.Agree.{Agree, Step}
@@ -33,14 +33,14 @@ use Rattle.history.proofs.Batches.{same-batch}
 abbrev pub Agrees : State → Ledger → Type 0
 Agrees S L = Agree (S .table) (S .medium) L
 
-started : (capacity : ℕ) → firstOf (startRows capacity) ≡ 0 → leb 1 capacity && leb capacity 65536 ≡ true
+start-in-range : (capacity : ℕ) → firstOf (startRows capacity) ≡ 0 → leb 1 capacity && leb capacity 65536 ≡ true
 unfolding startRows
-started capacity z = not-false _ (passed 1 (not (leb 1 capacity && leb capacity 65536)) [] z .0)
+start-in-range capacity z = not-false _ (passed 1 (not (leb 1 capacity && leb capacity 65536)) [] z .0)
 
-pub begin-agrees : (capacity n : ℕ) → firstOf (startRows capacity) ≡ 0 → Agrees (begin capacity n) (opening capacity n)
-unfolding begin startTable opening usedBy placeOf TopAt
+pub begin-agrees : (capacity n : ℕ) → firstOf (startRows capacity) ≡ 0 → Agrees (begin capacity n) (freshLedger capacity n)
+unfolding begin startTable freshLedger usedBy placeOf TopAt
 begin-agrees capacity n z =
-    let s = started capacity z in
+    let s = start-in-range capacity z in
     let low = leb-true 1 capacity (and-l (leb 1 capacity) (leb capacity 65536) s) in
     let high = leb-true capacity 65536 (and-r (leb 1 capacity) (leb capacity 65536) s) in
     rw (settle-yes (startRows capacity) (empty capacity) (empty 0) z) (record {
@@ -58,7 +58,7 @@ begin-agrees capacity n z =
         free = λ k j q l u i b. absurd (omega arith);
         fits = λ k. omega arith;
         noneAbove = λ k l. refl;
-        stands = each-none _;
+        written = each-none _;
         opens = λ id k j s l i b. absurd (omega arith);
         tops = λ id s. record { off = λ k j l i b. absurd (omega arith) };
       };

@@ -17,12 +17,12 @@ use Rattle.lookup.specs.Lookup.{lookupReply}
 use Rattle.servers.specs.Servers.{startRows}
 use Rattle.history.specs.Call.{Call, Compared, compared}
 use Rattle.history.specs.Machine.{State, begin}
-use Rattle.history.specs.Ledger.{Event, wrote, Ledger, Standing, opening, usedBy, standing, standingReply}
-use Rattle.history.specs.Demand3.{Stands, Demand3, stateThen, ledgerThen}
+use Rattle.history.specs.Ledger.{Event, wrote, Ledger, Version, freshLedger, usedBy, lastWriteOf, lastWriteReply}
+use Rattle.history.specs.Demand3.{OnMedium, Demand3, stateThen, ledgerThen}
 use Rattle.history.proofs.Unaltered.{after-once, after-append}
-use Rattle.history.proofs.Events.{used-write, own-entry, last-stands, stands-came}
+use Rattle.history.proofs.Events.{used-write, own-entry, last-written, last-came}
 use Rattle.history.proofs.Holds.{write-there}
-use Rattle.history.proofs.LookupStep.{stands-written, looked}
+use Rattle.history.proofs.LookupStep.{last-write-words, looked}
 use Rattle.history.proofs.Batches.{same-batch}
 use Rattle.history.proofs.Run.{Agrees, begin-agrees, run}
 use Rattle.history.proofs.Never.{never}
@@ -33,17 +33,17 @@ module _ (S : State) (L : Ledger) (A : Agrees S L) where
   abbrev reply : ℕ → Reply
   reply id = lookupReply (S .table) (S .medium) id
 
-  stands : (newer older : List Event) (id value server : ℕ) → L .events ≡ newer ++ (wrote id value server ∷ older) → Stands S L id value server (usedBy older server)
-  stands newer older id value server e =
+  onMedium : (newer older : List Event) (id value server : ℕ) → L .events ≡ newer ++ (wrote id value server ∷ older) → OnMedium S L id value server (usedBy older server)
+  onMedium newer older id value server e =
       let t = S .table in
       let H = A .holds in
       let u = used-write (L .events) newer older id value server e in
-      let w = H .stands newer older id value server e in
+      let w = H .written newer older id value server e in
       record {
         there = omega (arith, A .count, write-there H newer older id value server e);
         inside = omega (arith, A .capacity, H .fits server);
-        idStands = rw (← (A .capacity)) (w .idThere);
-        valueStands = rw (← (A .capacity)) (w .valueThere);
+        idThere = rw (← (A .capacity)) (w .idThere);
+        valueThere = rw (← (A .capacity)) (w .valueThere);
       }
 
   -- the words of two entries that are inside differ, and no two writes have the same entry of a server
@@ -53,35 +53,35 @@ module _ (S : State) (L : Ledger) (A : Agrees S L) where
       → entryAt (L .capacity) server (usedBy older server) + a ≡ entryAt (L .capacity) server′ (usedBy older′ server′) + b
       → length older ≡ length older′
   own newer older newer′ older′ id value server id′ value′ server′ e e′ a b l l′ h =
-      let inside = stands newer older id value server e .inside in
-      let inside′ = stands newer′ older′ id′ value′ server′ e′ .inside in
+      let inside = onMedium newer older id value server e .inside in
+      let inside′ = onMedium newer′ older′ id′ value′ server′ e′ .inside in
       let same = entry-apart (L .capacity) server (usedBy older server) a server′ (usedBy older′ server′) b inside inside′ l l′ h in
       own-entry newer newer′ older older′ id value id′ value′ server (sym e ∙ rw (← (same .0)) at e′) (same .1 ∙ ap (usedBy older′) (sym (same .0)))
 
-  finds : (id : ℕ) (x : Standing) → standing (L .events) id ≡ some x → (reply id .refusal ≡ 0) × (reply id .value ≡ x .value)
-  unfolding compared standingReply
+  finds : (id : ℕ) (x : Version) → lastWriteOf (L .events) id ≡ some x → (reply id .refusal ≡ 0) × (reply id .value ≡ x .value)
+  unfolding compared lastWriteReply
   finds id x e =
-      let w = stands-came (L .events) id x e in
-      let s = stands (w .newer) (w .older) id (x .value) (x .server) (w .split) in
-      let r = looked A id (stands-written A id x e .idSmall) (omega (arith, A .count, s .there)) ∙ ap (standingReply L id) e in
+      let w = last-came (L .events) id x e in
+      let s = onMedium (w .newer) (w .older) id (x .value) (x .server) (w .split) in
+      let r = looked A id (last-write-words A id x e .idSmall) (omega (arith, A .count, s .there)) ∙ ap (lastWriteReply L id) e in
       (ap (λ (c : Compared). c .refusal) r, ap (λ (c : Compared). c .value) r)
 
-  absent : (id : ℕ) → id < contentRange → 0 < L .servers → (reply id .refusal ≡ 8) ↔ (standing (L .events) id ≡ none)
-  unfolding compared standingReply
+  absent : (id : ℕ) → id < contentRange → 0 < L .servers → (reply id .refusal ≡ 8) ↔ (lastWriteOf (L .events) id ≡ none)
+  unfolding compared lastWriteReply
   absent id n l = (
-    λ r. go r (standing (L .events) id) refl,
-    λ e. ap (λ (c : Compared). c .refusal) (looked A id n (omega (arith, A .count)) ∙ ap (standingReply L id) e),
+    λ r. go r (lastWriteOf (L .events) id) refl,
+    λ e. ap (λ (c : Compared). c .refusal) (looked A id n (omega (arith, A .count)) ∙ ap (lastWriteReply L id) e),
   )
     where
-      go : reply id .refusal ≡ 8 → (o : Option Standing) → standing (L .events) id ≡ o → o ≡ none
+      go : reply id .refusal ≡ 8 → (o : Option Version) → lastWriteOf (L .events) id ≡ o → o ≡ none
       go r none e = refl
       go r (some x) e = absurd (omega (arith, finds id x e .0))
 
--- what stands, and no last write
-not-both : {o : Option Standing} {x : Standing} → o ≡ none → o ≡ some x → ⊥
+-- an id has a last write or none, and not both
+not-both : {o : Option Version} {x : Version} → o ≡ none → o ≡ some x → ⊥
 not-both p q = let z : _≡_ {A = ℕ} 0 1 = cc in omega arith
 
-nothing : (o : Option Standing) → ((x : Standing) → o ≡ some x → ⊥) → o ≡ none
+nothing : (o : Option Version) → ((x : Version) → o ≡ some x → ⊥) → o ≡ none
 nothing none f = refl
 nothing (some x) f = absurd (f x refl)
 
@@ -90,22 +90,22 @@ unfolding compared
 demand3 capacity n z calls =
     let S = stateThen capacity n calls in
     let L = ledgerThen capacity n calls in
-    let r = run calls (begin capacity n) (opening capacity n) (begin-agrees capacity n z) in
+    let r = run calls (begin capacity n) (freshLedger capacity n) (begin-agrees capacity n z) in
     let A : Agrees (stateThen capacity n calls) (ledgerThen capacity n calls) = r .agrees in
     record {
       alike = r .alike;
-      batches = λ before later ids e. same-batch (run before (begin capacity n) (opening capacity n) (begin-agrees capacity n z) .agrees) ids;
-      finds = λ id value server w. finds S L A id (record { value = value; server = server }) (last-stands (L .events) id value server w);
+      batches = λ before later ids e. same-batch (run before (begin capacity n) (freshLedger capacity n) (begin-agrees capacity n z) .agrees) ids;
+      finds = λ id value server w. finds S L A id (record { value = value; server = server }) (last-written (L .events) id value server w);
       absent = λ id s l. (
-        λ e value server w. not-both (absent S L A id s l .0 e) (last-stands (L .events) id value server w),
-        λ f. absent S L A id s l .1 (nothing (standing (L .events) id) (λ x e. f (x .value) (x .server) (stands-came (L .events) id x e))),
+        λ e value server w. not-both (absent S L A id s l .0 e) (last-written (L .events) id value server w),
+        λ f. absent S L A id s l .1 (nothing (lastWriteOf (L .events) id) (λ x e. f (x .value) (x .server) (last-came (L .events) id x e))),
       );
       unaltered = λ before later e a f.
           ap (λ (l : List Call). nth (stateThen capacity n l .medium) a) (sym e)
           ∙ ap (λ (T : State). nth (T .medium) a) (after-append before later (begin capacity n))
           ∙ after-once later (stateThen capacity n before) a f;
-      stands = stands S L A;
+      onMedium = onMedium S L A;
       own = own S L A;
       live = live-writes S L A;
-      never = λ before later c e. never (stateThen capacity n before) (ledgerThen capacity n before) (run before (begin capacity n) (opening capacity n) (begin-agrees capacity n z) .agrees) c;
+      never = λ before later c e. never (stateThen capacity n before) (ledgerThen capacity n before) (run before (begin capacity n) (freshLedger capacity n) (begin-agrees capacity n z) .agrees) c;
     }

@@ -24,7 +24,7 @@ use Rattle.medium.proofs.Entries.{bears-i, bears-id, bears-cong}
 use Rattle.history.specs.Ledger.{Event, wrote, usedBy}
 use Rattle.history.proofs.Tops.{Upto, Top, TopAt, top-cong}
 use Rattle.history.proofs.Events.{placeOf, each-wrote, used-self, used-other, used-grows, wrote-self, wrote-other}
-use Rattle.history.proofs.Holds.{Written, Holds, bears-used, Once, once-blank, once-written}
+use Rattle.history.proofs.Holds.{InEntry, Holds, bears-used, Once, once-blank, once-written}
 use Rattle.history.proofs.MarkedMedium.{Invalidated, invalidated}
 
 -- the medium with the value word and the id word in an entry
@@ -150,8 +150,8 @@ module _ {capacity count : ℕ} {greatest : ℕ → Fraction} {events : List Eve
       go (fresh x y z) = rw (x, z) (W .reads)
       go (before o) = H .opens a k j n l i o
 
-  others-stand : (a : ℕ) → a < contentRange → a ≢ id → TopAt (bears capacity N a) count capacity (placeOf events a)
-  others-stand a n f = top-cong (bears capacity m a) (bears capacity N a) count capacity
+  others-kept : (a : ℕ) → a < contentRange → a ≢ id → TopAt (bears capacity N a) count capacity (placeOf events a)
+  others-kept a n f = top-cong (bears capacity m a) (bears capacity N a) count capacity
       (λ k j l i. iff-eq _ _ (λ b. go k j (from a k j i b)) (λ b. done .others a k j l i f (off-bears a k j i (λ x y. not-borne a k j n x y b) ∙ b)))
       (placeOf events a) (H .tops a n)
     where
@@ -172,7 +172,7 @@ module _ {capacity count : ℕ} {greatest : ℕ → Fraction} {events : List Eve
         beside = λ q. omega (arith, bears-used H id k j (W .small) l i o, ap (usedBy events) q);
       }
 
-  new-written : Written capacity N id value server entry
+  new-written : InEntry capacity N id value server entry
   new-written = record {
     idThere = (rw add-zero at (done .words server entry 0 (W .room) (omega arith))) ∙ id-there;
     valueThere = done .words server entry 1 (W .room) (omega arith) ∙ value-there;
@@ -197,9 +197,9 @@ module _ {capacity count : ℕ} {greatest : ℕ → Fraction} {events : List Eve
         (λ d. rw (eqb-true k server d, used-self) (W .room))
         (λ d. rw (used-other id value server events k (eqb-false k server d)) (H .fits k));
     noneAbove = λ k l. used-other id value server events k (λ e. omega arith) ∙ H .noneAbove k l;
-    stands = each-wrote _ new-written (λ newer older a v k e. once-written m N once (H .stands newer older a v k e));
+    written = each-wrote _ new-written (λ newer older a v k e. once-written m N once (H .written newer older a v k e));
     opens = opens;
     tops = λ a n. byBool (eqb a id)
         (λ d. rw (eqb-true a id d, wrote-self id value server events) new-top)
-        (λ d. rw (wrote-other id value server a events (eqb-false a id d)) (others-stand a n (eqb-false a id d)));
+        (λ d. rw (wrote-other id value server a events (eqb-false a id d)) (others-kept a n (eqb-false a id d)));
   }

@@ -15,13 +15,13 @@ use Rattle.lookup.specs.Lookup.{lookupReply}
 use Rattle.batch.specs.Batch.{batchReply}
 use Rattle.history.specs.Call.{Call, batch, compared}
 use Rattle.history.specs.Machine.{State, refusals, after, replies, begin, liveEntries}
-use Rattle.history.specs.Ledger.{Event, wrote, deleted, Ledger, opening, usedBy, writes, batchL, ledgerAfter, ledgerReplies}
+use Rattle.history.specs.Ledger.{Event, wrote, removed, Ledger, freshLedger, usedBy, writes, batchL, ledgerAfter, ledgerReplies}
 
--- no event of an id among these
+-- none of these events is of the id
 unfoldable pub untouched : ℕ → List Event → Bool
 untouched id [] = true
 untouched id (wrote a value server ∷ older) = not (eqb a id) && untouched id older
-untouched id (deleted a ∷ older) = not (eqb a id) && untouched id older
+untouched id (removed a ∷ older) = not (eqb a id) && untouched id older
 
 -- the events have an accepted write of the id, and after it no write and no delete of that id
 pub record LastWrite (events : List Event) (id value server : ℕ) : Type 0 where
@@ -31,11 +31,11 @@ pub record LastWrite (events : List Event) (id value server : ℕ) : Type 0 wher
   pub clear : untouched id newer ≡ true
 
 -- entry j of a server that is there has the id and the value of a write
-pub record Stands (S : State) (L : Ledger) (id value server j : ℕ) : Type 0 where
+pub record OnMedium (S : State) (L : Ledger) (id value server j : ℕ) : Type 0 where
   pub there : server < L .servers
   pub inside : j < L .capacity
-  pub idStands : nth (S .medium) (entryAt (L .capacity) server j) ≡ idWord id
-  pub valueStands : nth (S .medium) (valueAt (L .capacity) server j) ≡ valueWord value
+  pub idThere : nth (S .medium) (entryAt (L .capacity) server j) ≡ idWord id
+  pub valueThere : nth (S .medium) (valueAt (L .capacity) server j) ≡ valueWord value
 
 module _ (capacity n : ℕ) (calls : List Call) where
   -- state and ledger after the list, its events, and what a lookup then replies
@@ -43,7 +43,7 @@ module _ (capacity n : ℕ) (calls : List Call) where
   stateThen = after (begin capacity n) calls
 
   abbrev pub ledgerThen : Ledger
-  ledgerThen = ledgerAfter (opening capacity n) calls
+  ledgerThen = ledgerAfter (freshLedger capacity n) calls
 
   abbrev pub eventsThen : List Event
   eventsThen = ledgerThen .events
@@ -58,29 +58,29 @@ module _ (capacity n : ℕ) (calls : List Call) where
   abbrev L : Ledger
   L = ledgerThen capacity n calls
 
-  abbrev found : ℕ → Reply
-  found id = lookupThen capacity n calls id
+  abbrev lookedUp : ℕ → Reply
+  lookedUp id = lookupThen capacity n calls id
 
   pub record Demand3 : Type 0 where
     -- each call answers with the refusal number, server, value and opened count that the ledger gives
-    pub alike : map compared (replies (begin capacity n) calls) ≡ ledgerReplies (opening capacity n) calls
+    pub alike : map compared (replies (begin capacity n) calls) ≡ ledgerReplies (freshLedger capacity n) calls
     -- and each batch of lookups with the ledger's whole answer
     pub batches : (before later : List Call) (ids : List ℕ) → before ++ (batch ids ∷ later) ≡ calls
         → batchReply (stateThen capacity n before .table) (stateThen capacity n before .medium) ids ≡ batchL (ledgerThen capacity n before) ids
     -- a lookup finds the value of the last accepted write of the id with no accepted delete afterwards
     pub finds : (id value server : ℕ) → LastWrite (L .events) id value server
-        → (found id .refusal ≡ 0) × (found id .value ≡ value)
+        → (lookedUp id .refusal ≡ 0) × (lookedUp id .value ≡ value)
     -- and answers 'absent' exactly when there is no such write, once a server is there and for ids in range
     pub absent : (id : ℕ) → id < contentRange → 0 < L .servers
-        → (found id .refusal ≡ 8) ↔ ((value server : ℕ) → LastWrite (L .events) id value server → ⊥)
+        → (lookedUp id .refusal ≡ 8) ↔ ((value server : ℕ) → LastWrite (L .events) id value server → ⊥)
     -- every word that is not blank after some first part of the list stands unaltered after all of it
     pub unaltered : (before later : List Call) → before ++ later ≡ calls → (a : ℕ)
         → nth (after (begin capacity n) before .medium) a ≢ blank
         → nth (S .medium) a ≡ nth (after (begin capacity n) before .medium) a
     -- id and value of each accepted write stand on the server that the ledger gave it, in the entry that was then its used
-    pub stands : (newer older : List Event) (id value server : ℕ)
+    pub onMedium : (newer older : List Event) (id value server : ℕ)
         → L .events ≡ newer ++ (wrote id value server ∷ older)
-        → Stands S L id value server (usedBy older server)
+        → OnMedium S L id value server (usedBy older server)
     -- which is its own: two accepted writes whose entries share a word of the medium, on any servers, are the same write
     pub own : (newer older newer′ older′ : List Event) (id value server id′ value′ server′ : ℕ)
         → L .events ≡ newer ++ (wrote id value server ∷ older)

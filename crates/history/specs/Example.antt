@@ -7,7 +7,7 @@ use Rattle.replies.specs.declared.Reply.{Reply}
 use Rattle.replies.specs.Reply.{refused, onServer, found}
 use Rattle.history.specs.Call.{Call, addServer, reweight, write, delete, lookup, compared}
 use Rattle.history.specs.Machine.{after, replies, begin}
-use Rattle.history.specs.Ledger.{opening, ledgerReplies}
+use Rattle.history.specs.Ledger.{freshLedger, ledgerReplies}
 
 unfoldable pub calls : List Call
 calls =
@@ -41,7 +41,7 @@ expected =
 -- a table of 4 entries a server over n blank words; proofs/Example shows it for every n of 36 or more, the words of three servers
 pub record Example (n : ℕ) : Type 0 where
   pub machine : replies (begin 4 n) calls ≡ expected
-  pub ledger : ledgerReplies (opening 4 n) calls ≡ map compared expected
+  pub ledger : ledgerReplies (freshLedger 4 n) calls ≡ map compared expected
   pub word24 : nth (after (begin 4 n) calls .medium) 24 ≡ 626627286
   pub word25 : nth (after (begin 4 n) calls .medium) 25 ≡ 1073742324
   pub word26 : nth (after (begin 4 n) calls .medium) 26 ≡ 2147483649

@@ -20,7 +20,7 @@ use Rattle.history.specs.Call.{Call, addServer, reweight, write, delete,
 -- an accepted write (id, value, server) or an accepted delete
 pub data Event : Type 0 where
   wrote : ℕ → ℕ → ℕ → Event
-  deleted : ℕ → Event
+  removed : ℕ → Event
 
 -- the medium's length, the number of servers, their weights, for each the greatest WriteP so far, and the events, the
 -- newest first
@@ -32,9 +32,9 @@ pub record Ledger : Type 0 where
   pub greatest : ℕ → Fraction
   pub events : List Event
 
--- no server, write or delete
-unfoldable pub opening : ℕ → ℕ → Ledger
-opening capacity words = record {
+-- a ledger that has no server, write or delete yet
+unfoldable pub freshLedger : ℕ → ℕ → Ledger
+freshLedger capacity words = record {
   capacity = capacity;
   words = words;
   servers = 0;
@@ -54,29 +54,30 @@ wordsFor L n = 3 * L .capacity * n
 unfoldable pub usedBy : List Event → ℕ → ℕ
 usedBy [] k = 0
 usedBy (wrote id value server ∷ older) k = cond (eqb server k) 1 0 + usedBy older k
-usedBy (deleted id ∷ older) k = usedBy older k
+usedBy (removed id ∷ older) k = usedBy older k
 
--- a write that stands: its value and its server
-pub record Standing : Type 0 where
+-- what an id has by a write: the value, and the server that it went to
+pub record Version : Type 0 where
   pub value : ℕ
   pub server : ℕ
 
 -- the last write of an id with no delete of it afterwards
-unfoldable pub standing : List Event → ℕ → Option Standing
-standing [] id = none
-standing (wrote a value server ∷ older) id =
-    cond (eqb a id) (some (record { value = value; server = server })) (standing older id)
-standing (deleted a ∷ older) id = cond (eqb a id) none (standing older id)
+unfoldable pub lastWriteOf : List Event → ℕ → Option Version
+lastWriteOf [] id = none
+lastWriteOf (wrote a value server ∷ older) id =
+    cond (eqb a id) (some (record { value = value; server = server })) (lastWriteOf older id)
+lastWriteOf (removed a ∷ older) id = cond (eqb a id) none (lastWriteOf older id)
 
-unfoldable pub isStanding : Option Standing → Bool
-isStanding none = false
-isStanding (some x) = true
+-- the id has such a write
+unfoldable pub isWritten : Option Version → Bool
+isWritten none = false
+isWritten (some x) = true
 
 -- the number of all writes
 unfoldable pub writes : List Event → ℕ
 writes [] = 0
 writes (wrote id value server ∷ older) = suc (writes older)
-writes (deleted id ∷ older) = writes older
+writes (removed id ∷ older) = writes older
 
 -- what a call makes of the ledger, and its reply
 pub record Entered : Type 0 where
@@ -90,7 +91,7 @@ told refusal server value opened = record { refusal = refusal; server = server; 
 unfoldable pub enterBy : Ledger → List Row → Entered → Entered
 enterBy L rows done = settle rows done (record { reply = told (firstOf rows) 0 0 0; ledger = L })
 
--- f with another value at k
+-- f, but for another value at k
 unfoldable pub put : {A : Type 0} → (ℕ → A) → ℕ → A → ℕ → A
 put f k x i = cond (eqb i k) x (f i)
 
@@ -172,7 +173,7 @@ writeRowsL L id value =
 unfoldable pub deleteRowsL : Ledger → ℕ → List Row
 deleteRowsL L id =
     readyRowsL L (leb contentRange id)
-    ++ (8 when not (isStanding (standing (L .events) id)) ∷ [])
+    ++ (8 when not (isWritten (lastWriteOf (L .events) id)) ∷ [])
 
 -- lookup: the value of the id's last write, or 8; the servers from that write's upward whose greatest WriteP exceeds their
 -- draw, or all such servers
@@ -183,22 +184,23 @@ lookupRowsL L id = readyRowsL L (leb contentRange id)
 unfoldable pub openedFrom : Ledger → ℕ → ℕ → ℕ
 openedFrom L id from = countBelow (λ k. leb from k && readable (L .greatest) id k) (L .servers)
 
-unfoldable pub standingReply : Ledger → ℕ → Option Standing → Compared
-standingReply L id none = told 8 0 0 (openedFrom L id 0)
-standingReply L id (some x) = told 0 0 (x .value) (openedFrom L id (x .server))
+unfoldable pub lastWriteReply : Ledger → ℕ → Option Version → Compared
+lastWriteReply L id none = told 8 0 0 (openedFrom L id 0)
+lastWriteReply L id (some x) = told 0 0 (x .value) (openedFrom L id (x .server))
 
 -- a lookup changes nothing
 abbrev pub lookupL : Ledger → ℕ → Entered
-lookupL L id = enterBy L (lookupRowsL L id) (record { reply = standingReply L id (standing (L .events) id); ledger = L })
+lookupL L id = enterBy L (lookupRowsL L id) (record { reply = lastWriteReply L id (lastWriteOf (L .events) id); ledger = L })
 
 -- a batch of lookups, which changes nothing: the replies of its lookups, and the servers that they open
 
-unfoldable pub standsFrom : Option Standing → ℕ
-standsFrom none = 0
-standsFrom (some x) = x .server
+-- the lowest server that a lookup of the id may open
+unfoldable pub lowestL : Option Version → ℕ
+lowestL none = 0
+lowestL (some x) = x .server
 
 unfoldable pub opensL : Ledger → ℕ → ℕ → Bool
-opensL L id k = settle (lookupRowsL L id) (leb (standsFrom (standing (L .events) id)) k && readable (L .greatest) id k) false
+opensL L id k = settle (lookupRowsL L id) (leb (lowestL (lastWriteOf (L .events) id)) k && readable (L .greatest) id k) false
 
 unfoldable pub openedAtL : Ledger → List ℕ → ℕ → ℕ → Bool
 openedAtL L ids i k = opensL L (nth ids i) k
@@ -226,7 +228,7 @@ enter L (write id value) =
     let k = targetL L id in
     enterBy L (writeRowsL L id value) (record { reply = told 0 k 0 0; ledger = withEvent L (wrote id value k) })
 enter L (delete id) =
-    enterBy L (deleteRowsL L id) (record { reply = told 0 0 0 0; ledger = withEvent L (deleted id) })
+    enterBy L (deleteRowsL L id) (record { reply = told 0 0 0 0; ledger = withEvent L (removed id) })
 enter L (lookup id) = lookupL L id
 enter L (batch ids) = record { reply = told (batchL L ids .refusal) 0 0 0; ledger = L }
 

@@ -8,21 +8,21 @@ use Rattle.medium.specs.Entry.{live}
 use Rattle.table.specs.Parts.{usedOf}
 use Rattle.history.specs.Call.{Call}
 use Rattle.history.specs.Machine.{State}
-use Rattle.history.specs.Ledger.{Event, wrote, deleted, usedBy}
+use Rattle.history.specs.Ledger.{Event, wrote, removed, usedBy}
 use Rattle.history.specs.Demand3.{stateThen, eventsThen}
 
 -- among the later events there is no delete of the id and no write of it to the same or a lower server
-unfoldable pub stays : ℕ → ℕ → List Event → Bool
-stays id server [] = true
-stays id server (wrote a value k ∷ newer) = (not (eqb a id) || ltb server k) && stays id server newer
-stays id server (deleted a ∷ newer) = not (eqb a id) && stays id server newer
+unfoldable pub staysLive : ℕ → ℕ → List Event → Bool
+staysLive id server [] = true
+staysLive id server (wrote a value k ∷ newer) = (not (eqb a id) || ltb server k) && staysLive id server newer
+staysLive id server (removed a ∷ newer) = not (eqb a id) && staysLive id server newer
 
 -- entry j of server k is live for an id
 abbrev pub liveIn : State → ℕ → ℕ → ℕ → Bool
 liveIn S id k j = live (S .table .capacity) (usedOf (S .table) k) (S .medium) id k j
 
--- after the list each accepted write's entry is live for its id exactly when it stays
+-- after the list each accepted write's entry is live for its id exactly when it stays so by the later events
 pub record LiveRule (capacity n : ℕ) (calls : List Call) : Type 0 where
   pub rule : (newer older : List Event) (id value server : ℕ)
       → eventsThen capacity n calls ≡ newer ++ (wrote id value server ∷ older)
-      → liveIn (stateThen capacity n calls) id server (usedBy older server) ≡ stays id server newer
+      → liveIn (stateThen capacity n calls) id server (usedBy older server) ≡ staysLive id server newer

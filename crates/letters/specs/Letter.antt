@@ -14,6 +14,6 @@ letters = 0 ∷ 70 ∷ 71 ∷ 87 ∷ 68 ∷ 76 ∷ []
 unfoldable pub letterOf : ℕ → ℕ
 letterOf number = nth letters number
 
--- the number whose letter this is; 0 where it is no call's
+-- the number of the call that has this letter, and 0 where no call has it
 unfoldable pub numberFor : ℕ → ℕ
 numberFor letter = orZero (highest (λ number. eqb (letterOf number) letter) 6)

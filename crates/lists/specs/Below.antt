@@ -5,7 +5,7 @@ use mathlib.Core.Option.{Option, none, some}
 use mathlib.Core.List.{List, [], _∷_, _++_}
 use lib.ListN.{getD, set}
 
--- what stands at position k of a list of numbers
+-- what stands at position k of a list of numbers, and 0 past its end
 abbrev pub nth : List ℕ → ℕ → ℕ
 nth xs k = getD xs k 0
 

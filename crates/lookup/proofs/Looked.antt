@@ -11,24 +11,24 @@ use Rattle.replies.specs.declared.Refusal.{Refusal}
 use Rattle.replies.specs.Refusal.{firstOf}
 use Rattle.replies.specs.Reply.{refused, numberOf}
 use Rattle.replies.proofs.Answers.{reply-refused, reply-done}
-use Rattle.search.specs.declared.Found.{Found}
-use Rattle.search.specs.declared.Found.the-variants.{At, Nowhere}
-use Rattle.search.specs.Search.{Place, Search, searchFor, foundAt, foundBy}
+use Rattle.search.specs.declared.SearchAnswer.{SearchAnswer}
+use Rattle.search.specs.declared.SearchAnswer.the-variants.{At, Nowhere}
+use Rattle.search.specs.Search.{Place, Search, searchFor, answerAt, answerOf}
 use Rattle.lookup.specs.Lookup.{lookupRows, metReply, lookupReply}
 
 -- what a search that answers this met, and how many servers it opened
-module _ (s : Search) {f : Found} (e : f ≡ foundBy s) where
-  pub found-none : (n : ℕ) → f ≡ Nowhere n → (s .met ≡ none) × (length (s .opened) ≡ n)
-  unfolding foundBy foundAt
-  found-none n g = go (s .met) refl
+module _ (s : Search) {f : SearchAnswer} (e : f ≡ answerOf s) where
+  pub answer-none : (n : ℕ) → f ≡ Nowhere n → (s .met ≡ none) × (length (s .opened) ≡ n)
+  unfolding answerOf answerAt
+  answer-none n g = go (s .met) refl
     where
       go : (o : Option Place) → s .met ≡ o → (s .met ≡ none) × (length (s .opened) ≡ n)
       go none q = let h : f ≡ Nowhere (length (s .opened)) = rw q at e in (q, cc)
       go (some p) q = let h : f ≡ At (p .server) (p .entry) (length (s .opened)) = rw q at e in let z : _≡_ {A = ℕ} 0 1 = cc in absurd (omega arith)
 
-  pub found-some : (k j n : ℕ) → f ≡ At k j n → (s .met ≡ some (record { server = k; entry = j })) × (length (s .opened) ≡ n)
-  unfolding foundBy foundAt
-  found-some k j n g = go (s .met) refl
+  pub answer-some : (k j n : ℕ) → f ≡ At k j n → (s .met ≡ some (record { server = k; entry = j })) × (length (s .opened) ≡ n)
+  unfolding answerOf answerAt
+  answer-some k j n g = go (s .met) refl
     where
       go : (o : Option Place) → s .met ≡ o → (s .met ≡ some (record { server = k; entry = j })) × (length (s .opened) ≡ n)
       go none q = let h : f ≡ Nowhere (length (s .opened)) = rw q at e in let z : _≡_ {A = ℕ} 0 1 = cc in absurd (omega arith)
@@ -40,17 +40,17 @@ module _ (s : Search) {f : Found} (e : f ≡ foundBy s) where
 
 module _ (t : Table) (m : List ℕ) (id : ℕ) (z : firstOf (lookupRows t m id) ≡ 0) where
   -- lookup met nothing, or this entry
-  pub looked-none : {r : Found} (n : ℕ) → r ≡ foundBy (searchFor t m id) → r ≡ Nowhere n → refused 8 n ≡ lookupReply t m id
+  pub looked-none : {r : SearchAnswer} (n : ℕ) → r ≡ answerOf (searchFor t m id) → r ≡ Nowhere n → refused 8 n ≡ lookupReply t m id
   unfolding lookupReply metReply
   looked-none n e g =
-      let f = found-none (searchFor t m id) e n g in
+      let f = answer-none (searchFor t m id) e n g in
       sym (reply-done (lookupRows t m id) z _ ∙ ap₂ (metReply (t .capacity) m) (f .1) (f .0))
 
-  pub looked-some : {r : Found} (k j n : ℕ) → r ≡ foundBy (searchFor t m id) → r ≡ At k j n
+  pub looked-some : {r : SearchAnswer} (k j n : ℕ) → r ≡ answerOf (searchFor t m id) → r ≡ At k j n
       → metReply (t .capacity) m n (some (record { server = k; entry = j })) ≡ lookupReply t m id
   unfolding lookupReply
   looked-some k j n e g =
-      let f = found-some (searchFor t m id) e k j n g in
+      let f = answer-some (searchFor t m id) e k j n g in
       sym (reply-done (lookupRows t m id) z _ ∙ ap₂ (metReply (t .capacity) m) (f .1) (f .0))
 
 -- a lookup that its tests refuse

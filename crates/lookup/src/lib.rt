@@ -10,12 +10,12 @@ use limits::CONTENT_RANGE;
 use replies::Check;
 use replies::LookupAnswer;
 use replies::Refusal;
-use search::Found;
+use search::SearchAnswer;
 use table::Columns;
 use table::Shape;
 use table::Table;
 
-// The answer for the entry that a lookup meets: its value, or that its value word has another tag.
+// The answer for the entry that a lookup meets: its value, or a refusal where its value word has another tag.
 pub fn met(
     capacity: u32,
     medium: &[u32],
@@ -35,7 +35,7 @@ pub fn met(
     }
 }
 
-// Lookup on a table whose columns are borrowed: the value of an id, or why there is none, and how many servers were opened.
+// Looks an id up on a table whose columns are borrowed.
 pub fn lookup_in<'a>(shape: Shape, columns: Columns<'a>, medium: &[u32], id: u32) -> LookupAnswer
     requires { ⌜ Whole columns ⌝ }
     ensures { λ r. ⌜ replyOfLookup r ≡ lookupReply (tableOf shape (columns .entry)) (now (medium .entry)) id ⌝ }
@@ -45,14 +45,14 @@ pub fn lookup_in<'a>(shape: Shape, columns: Columns<'a>, medium: &[u32], id: u32
     if let Check::Refused(refusal) = check {
         return LookupAnswer::Refused(refusal, 0);
     }
-    let found = search::find(shape, columns, medium, id);
-    match found {
-        Found::Nowhere(opened) => LookupAnswer::Refused(Refusal::NotFound, opened),
-        Found::At(server, entry, opened) => met(capacity, medium, server, entry, opened),
+    let answer = search::find(shape, columns, medium, id);
+    match answer {
+        SearchAnswer::Nowhere(opened) => LookupAnswer::Refused(Refusal::NotFound, opened),
+        SearchAnswer::At(server, entry, opened) => met(capacity, medium, server, entry, opened),
     }
 }
 
-// Lookup on a table by value.
+// Looks an id up on a table by value.
 pub fn lookup(table: Table, medium: &[u32], id: u32) -> LookupAnswer
     ensures { λ r. ⌜ replyOfLookup r ≡ lookupReply table (now (medium .entry)) id ⌝ }
 {

@@ -58,8 +58,8 @@ module _ (capacity used : ℕ) (m₀ : List ℕ) (id k content : ℕ) where
         ∙ sym (live-below capacity used m₀ id k j below)
 
     -- entry j is looked at
-    module _ (found : Bool) (test : found ≡ bears capacity m id k j) (m′ : List ℕ) (n′ : ℕ) where
-      pub one-more : found ≡ true → m′ ≡ set m (markAt capacity k j) (markWord content) → n′ ≡ n + 1 → Invalidated capacity used m₀ id k content (j + 1) m′ n′
+    module _ (bearing : Bool) (test : bearing ≡ bears capacity m id k j) (m′ : List ℕ) (n′ : ℕ) where
+      pub one-more : bearing ≡ true → m′ ≡ set m (markAt capacity k j) (markWord content) → n′ ≡ n + 1 → Invalidated capacity used m₀ id k content (j + 1) m′ n′
       unfolding invalidations burnAll
       one-more e w c =
           let s = more j true (sym live-kept ∙ sym test ∙ e) in
@@ -70,7 +70,7 @@ module _ (capacity used : ℕ) (m₀ : List ℕ) (id k content : ℕ) where
             long = ap length w ∙ simp length-set (done .long);
           }
 
-      pub none-more : found ≡ false → m′ ≡ m → n′ ≡ n → Invalidated capacity used m₀ id k content (j + 1) m′ n′
+      pub none-more : bearing ≡ false → m′ ≡ m → n′ ≡ n → Invalidated capacity used m₀ id k content (j + 1) m′ n′
       none-more e w c =
           let s : marksBelow capacity used m₀ id k (j + 1) ≡ marksBelow capacity used m₀ id k j = more j false (sym live-kept ∙ sym test ∙ e) ∙ append-nil _ in
           record {

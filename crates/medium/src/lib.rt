@@ -59,7 +59,7 @@ pub fn is_blank(medium: &[u32], from: usize, n: usize) -> bool
     true
 }
 
-// Whether the entry that begins at an address bears an id and no mark; one below the used ones is live then.
+// Whether the entry that begins at an address bears an id and no mark. Such an entry is live if it is below the used ones.
 pub fn bears(medium: &[u32], at: usize, id: u32) -> bool
     requires { ⌜ at + markPlace < length (now medium) ⌝ }
     ensures { λ r. ⌜ r ≡ bearsAt (now (medium .entry)) id at ⌝ }

@@ -96,7 +96,7 @@ pub fn line_by(letter: u8, first: u32, second: u32) -> Line
     }
 }
 
-// Whether a line of this letter has a second number: G and W do.
+// Whether a line of this letter has a second number, as G and W have.
 pub fn has_two(letter: u8) -> bool
     ensures { λ r. ⌜ r ≡ hasTwo letter ⌝ }
 {

@@ -7,13 +7,14 @@ use lib.Dec.{leb}
 use Rattle.limits.specs.Limits.{maxServers, maxCapacity}
 use Rattle.lists.specs.Below.{nth, allBelow}
 
--- 1 to 256 weights, each of at most 65,536
+-- weight k is at most 65,536
 abbrev pub light : List ℕ → ℕ → Bool
 light weights k = leb (nth weights k) maxCapacity
 
+-- there are 1 to 256 weights, each of at most 65,536
 unfoldable pub bounded : List ℕ → Bool
 bounded weights = leb 1 (length weights) && (leb (length weights) maxServers && allBelow (light weights) (length weights))
 
--- how many ids get their write server: as many as both slices have room for, and none where the weights are not bounded so
+-- how many ids get their write server: as many as both slices have room for, and none where the weights are not bounded
 unfoldable pub picksOf : List ℕ → List ℕ → List ℕ → ℕ
 picksOf weights ids servers = cond (bounded weights) (min (length ids) (length servers)) 0

@@ -12,7 +12,7 @@ use Rattle.placement.specs.declared.Fraction.{Fraction}
 use Rattle.placement.specs.Draw.{modulus, drawOf}
 use Rattle.placement.specs.Fraction.{exceeds}
 
--- server 0 has 1/1, a later one of weight 0 has 0/1, and else it is the weight over the sum of the weights up to it
+-- server 0 has 1/1, a later one of weight 0 has 0/1, and any other has its weight over the sum of the weights up to it
 unfoldable pub shareOf : ℕ → ℕ → ℕ → Fraction
 shareOf k weight sum =
     cond (eqb k 0) (record { num = 1; den = 1 })

@@ -1,5 +1,5 @@
 // The published method on plain numbers: the draw of an id on a server, the comparison of a fraction with a draw,
-// WriteP, and the write server of an id. No table and no medium.
+// WriteP, and the write server of an id. This crate knows no table and no medium.
 ghost use mathlib.Core.Path.{_≡_};
 ghost use Prim.Native.Nat.{_<_};
 ghost use Rattle.limits.specs.Limits.{maxServers};
@@ -22,7 +22,7 @@ pub fn step(server: usize) -> u32
     ((server + 1) * 2654435769 % 4294967296) as u32
 }
 
-// The seed of an id on a server; never 0.
+// The seed of an id on a server, which is never 0.
 pub fn seed(id: u32, server: usize) -> u32
     requires { ⌜ server < maxServers ⌝ }
     ensures { λ r. ⌜ r ≡ seedOf id server ⌝ }

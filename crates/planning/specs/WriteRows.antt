@@ -16,7 +16,7 @@ use Rattle.checks.specs.Ready.{readyRows}
 unfoldable pub target : Table → ℕ → ℕ
 target t id = writeServer (weightOf t) (t .count) id
 
--- what only a write tests: that its server is full, and that its entry there is not blank
+-- what only a write tests: whether its server is full, and whether a word of its entry there is not blank
 unfoldable pub entryRows : Table → List ℕ → ℕ → List Row
 entryRows t m id =
     let k = target t id in

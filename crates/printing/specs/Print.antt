@@ -1,4 +1,4 @@
--- Printing a line: letter, refusal number or 0, and two answers; a lone question mark.
+-- What a line prints: a letter, the refusal number or 0, and two answers; or a lone question mark.
 use Prim.Native.Nat.{ℕ, zero, suc, _+_, _/_, _%_}
 use mathlib.Core.Bool.{cond}
 use mathlib.Core.List.{List, [], _∷_, _++_}
@@ -12,7 +12,7 @@ unfoldable pub digits : ℕ → ℕ → List ℕ
 digits zero x = []
 digits (suc n) x = cond (ltb x 10) ((48 + x) ∷ []) (digits n (x / 10) ++ ((48 + x % 10) ∷ []))
 
--- of a 32-bit number
+-- the digits of a 32-bit number
 unfoldable pub decimal : ℕ → List ℕ
 decimal x = digits 10 x
 

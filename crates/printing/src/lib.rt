@@ -15,7 +15,7 @@ use replies::WRITE;
 // Bytes of the longest line that is printed: a letter, three numbers of ten digits, a blank before each, and LF.
 pub const LONGEST_LINE: usize = 35;
 
-// A number without leading zeros.
+// Puts a number without leading zeros.
 fn put_number(out: &mut [u8], at: usize, x: u32) -> usize
     requires { ⌜ at + 10 ≤ length (now out) ⌝ }
     ensures next { λ r. ⌜ r ≡ at + length (decimal x) ⌝ }
@@ -30,7 +30,7 @@ fn put_number(out: &mut [u8], at: usize, x: u32) -> usize
     next + 1
 }
 
-// A whole answer line.
+// Puts a whole answer line.
 pub fn put_answer(
     out: &mut [u8],
     at: usize,
@@ -54,7 +54,7 @@ pub fn put_answer(
     three + 1
 }
 
-// The answer line of a call by its number.
+// Puts the answer line of a call by its number.
 pub fn put_reply(out: &mut [u8], at: usize, number: u32, reply: Reply) -> usize
     requires { ⌜ at + longestLine ≤ length (now out) ⌝ }
     requires { ⌜ (reply .server < 4294967296) × (reply .opened < 4294967296) × (reply .invalidated < 4294967296) ⌝ }
@@ -75,7 +75,7 @@ pub fn put_reply(out: &mut [u8], at: usize, number: u32, reply: Reply) -> usize
     }
 }
 
-// A line that can't be read, or comes before the first accepted S.
+// Puts the question mark of a line that can't be read, or comes before the first accepted S.
 pub fn put_question(out: &mut [u8], at: usize) -> usize
     requires { ⌜ at + 2 ≤ length (now out) ⌝ }
     ensures next { λ r. ⌜ r ≡ at + length question ⌝ }

@@ -26,14 +26,14 @@ use Rattle.replies.proofs.Answers.{number-not-zero, reply-number}
 use Rattle.servers.specs.Servers.{startRows, startReply, startTable}
 use Rattle.history.specs.Call.{Call, compared}
 use Rattle.history.specs.Machine.{State, after, begin}
-use Rattle.history.specs.Ledger.{opening, ledgerAfter}
+use Rattle.history.specs.Ledger.{freshLedger, ledgerAfter}
 use Rattle.history.proofs.Unaltered.{after-append}
 use Rattle.history.proofs.Run.{begin-agrees, step, run}
 use Rattle.encoding.specs.Encoding.{callLength, numberOffset, subjectOffset, amountOffset, replyLength, roomFor, withReplyAt, withReply, replyFrom}
 use Rattle.encoding.specs.ByNumber.{callOf, callAt, replyTo, nextBy}
 use Rattle.encoding.proofs.Calling.{Called}
 use Rattle.encoding.proofs.Storing.{Stored, length-withReply, stored-here, stored-below, reply-back}
-use Rattle.replay.specs.Replay.{appended, callsBelow, ledgerReplyTo, withReplies, runs, started, replyAt, ledgerReplyAt, LedgerWords}
+use Rattle.replay.specs.Replay.{appended, callsBelow, ledgerReplyTo, withReplies, runs, startState, replyAt, ledgerReplyAt, LedgerWords}
 
 -- one call more
 appended-after : (S : State) (calls : List Call) (o : Option Call) → after S (appended calls o) ≡ nextBy (after S calls) o
@@ -66,25 +66,25 @@ module _ (f : ℕ → Reply) (words : List ℕ) where
 
 -- on blank words the replies are the plain ledger's
 module _ (capacity : ℕ) (z : firstOf (startRows capacity) ≡ 0) (m : List ℕ) (b : (a : ℕ) → a < length m → nth m a ≡ blank) where
-  ledger-alike : (calls : List Call) (o : Option Call) → compared (replyTo (after (begin capacity (length m)) calls) o) ≡ ledgerReplyTo (ledgerAfter (opening capacity (length m)) calls) o
+  ledger-alike : (calls : List Call) (o : Option Call) → compared (replyTo (after (begin capacity (length m)) calls) o) ≡ ledgerReplyTo (ledgerAfter (freshLedger capacity (length m)) calls) o
   unfolding replyTo ledgerReplyTo compared
   ledger-alike calls none = refl
   ledger-alike calls (some c) =
-      let r = run calls (begin capacity (length m)) (opening capacity (length m)) (begin-agrees capacity (length m) z) in
+      let r = run calls (begin capacity (length m)) (freshLedger capacity (length m)) (begin-agrees capacity (length m) z) in
       step _ _ (r .agrees) c .alike
 
-  alike-at : (calls : List ℕ) (i : ℕ) → compared (replyAt (started capacity m) calls i) ≡ ledgerReplyAt capacity (length m) calls i
+  alike-at : (calls : List ℕ) (i : ℕ) → compared (replyAt (startState capacity m) calls i) ≡ ledgerReplyAt capacity (length m) calls i
   unfolding replyAt ledgerReplyAt begin
   alike-at calls i =
-      ap (λ (w : List ℕ). compared (replyTo (after (started capacity w) (callsBelow calls i)) (callAt calls i))) (replicate-all blank m b)
+      ap (λ (w : List ℕ). compared (replyTo (after (startState capacity w) (callsBelow calls i)) (callAt calls i))) (replicate-all blank m b)
       ∙ ledger-alike (callsBelow calls i) (callAt calls i)
 
 ledger-words : (capacity : ℕ) → firstOf (startRows capacity) ≡ 0 → (m calls words : List ℕ) (n : ℕ) → replyLength * n ≤ length words
-    → LedgerWords capacity m calls n (withReplies (replyAt (started capacity m) calls) n words)
+    → LedgerWords capacity m calls n (withReplies (replyAt (startState capacity m) calls) n words)
 unfolding compared
 ledger-words capacity z m calls words n fits = record {
   alike = λ b i l.
-      let s = stored-all (replyAt (started capacity m) calls) words n fits i l in
+      let s = stored-all (replyAt (startState capacity m) calls) words n fits i l in
       rw (s .refusal, s .server, s .value, s .opened) (alike-at capacity z m b calls i);
 }
 
@@ -160,8 +160,8 @@ module _ (S : State) (calls words : List ℕ) (n : ℕ) where
 abbrev pub Done : ℕ → List ℕ → List ℕ → List ℕ → ℕ → List ℕ → List ℕ → Type 0
 Done capacity m calls words n medium replies =
     (n ≡ runs capacity calls words)
-    × ((medium ≡ after (started capacity m) (callsBelow calls n) .medium)
-    × ((replies ≡ withReplies (replyAt (started capacity m) calls) n words)
+    × ((medium ≡ after (startState capacity m) (callsBelow calls n) .medium)
+    × ((replies ≡ withReplies (replyAt (startState capacity m) calls) n words)
     × LedgerWords capacity m calls n replies))
 
 module _ (capacity : ℕ) (m calls words : List ℕ) where
@@ -178,7 +178,7 @@ module _ (capacity : ℕ) (m calls words : List ℕ) where
       → Done capacity m calls words n medium replies
   unfolding runs
   all-run n begun table medium replies z o b d e =
-      let r : replies ≡ withReplies (replyAt (started capacity m) calls) n words = rw b at e in (
+      let r : replies ≡ withReplies (replyAt (startState capacity m) calls) n words = rw b at e in (
         o ∙ sym (settle-yes (startRows capacity) _ 0 z),
         (ap (λ (S : State). S .medium) (rw b at d), (r, rw r (ledger-words capacity z m calls words n (omega arith)))),
       )

@@ -1,4 +1,4 @@
--- An encoded list of calls, run. Crate encoding's Encoding.antt says which word is which.
+-- What an encoded list of calls answers and leaves. Crate encoding's Encoding.antt says which word is which.
 use Prim.Native.Nat.{ℕ, zero, suc, _<_}
 use mathlib.Core.Path.{_≡_}
 use mathlib.Core.List.{List, [], _∷_, _++_}
@@ -11,15 +11,16 @@ use Rattle.replies.specs.declared.Reply.{Reply}
 use Rattle.servers.specs.Servers.{startRows, startTable}
 use Rattle.history.specs.Call.{Call, Compared}
 use Rattle.history.specs.Machine.{State, after}
-use Rattle.history.specs.Ledger.{Ledger, opening, told, enter, ledgerAfter}
+use Rattle.history.specs.Ledger.{Ledger, freshLedger, told, enter, ledgerAfter}
 use Rattle.encoding.specs.Encoding.{refusalOffset, serverOffset, valueOffset, openedOffset, roomFor, replyWord, withReply}
 use Rattle.encoding.specs.ByNumber.{callAt, noCall, replyTo}
 
--- the calls among the first n
+-- a list with one call more, where it is a call
 unfoldable pub appended : List Call → Option Call → List Call
 appended calls none = calls
 appended calls (some c) = calls ++ (c ∷ [])
 
+-- the calls among the first n encoded ones
 unfoldable pub callsBelow : List ℕ → ℕ → List Call
 callsBelow words zero = []
 callsBelow words (suc n) = appended (callsBelow words n) (callAt words n)
@@ -42,12 +43,13 @@ replyAt S calls i = replyTo (after S (callsBelow calls i)) (callAt calls i)
 unfoldable pub runs : ℕ → List ℕ → List ℕ → ℕ
 runs capacity calls replies = settle (startRows capacity) (roomFor (length calls) (length replies)) 0
 
--- a started table over a lent medium, and the ledger's reply to call i
-abbrev pub started : ℕ → List ℕ → State
-started capacity m = record { table = startTable capacity; medium = m }
+-- a started table over a lent medium
+abbrev pub startState : ℕ → List ℕ → State
+startState capacity m = record { table = startTable capacity; medium = m }
 
+-- the ledger's reply to call i
 unfoldable pub ledgerReplyAt : ℕ → ℕ → List ℕ → ℕ → Compared
-ledgerReplyAt capacity n calls i = ledgerReplyTo (ledgerAfter (opening capacity n) (callsBelow calls i)) (callAt calls i)
+ledgerReplyAt capacity n calls i = ledgerReplyTo (ledgerAfter (freshLedger capacity n) (callsBelow calls i)) (callAt calls i)
 
 -- what is compared of reply i, by its words
 abbrev pub comparedAt : List ℕ → ℕ → Compared

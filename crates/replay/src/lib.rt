@@ -1,5 +1,5 @@
-// Encoded lists of calls, run: on a started table, where the replies are the plain ledger's if the words are blank, and on a
-// table lent as words.
+// This crate runs encoded lists of calls: on a started table, where the replies are the plain ledger's if the words are blank,
+// and on a table lent as words.
 ghost use mathlib.Core.Path.{_≡_};
 ghost use Prim.Native.Nat.{_≤_, _<_, _*_};
 ghost use lib.ListN.{length};
@@ -10,7 +10,7 @@ ghost use Rattle.replies.specs.Number.{writeNumber};
 ghost use Rattle.history.specs.Machine.{after};
 ghost use Rattle.encoding.specs.Encoding.{callLength, replyLength};
 ghost use Rattle.encoding.specs.ByNumber.{callOf, replyTo, nextBy, usedAfter};
-ghost use Rattle.replay.specs.Replay.{callsBelow, withReplies, runs, started, replyAt, LedgerWords};
+ghost use Rattle.replay.specs.Replay.{callsBelow, withReplies, runs, startState, replyAt, LedgerWords};
 ghost use Rattle.replay.specs.Lent.{lent, resumes};
 use encoding::AMOUNT_OFFSET;
 use encoding::CALL_LENGTH;
@@ -34,7 +34,7 @@ fn count_in(used: &mut Column, number: u32, reply: Reply)
 }
 
 // Runs the first `n` encoded calls on a table, which stays in one place: only add_server and reweight take it by value. A call
-// and its reply have as many words, so both begin at the same word.
+// has as many words as its reply, so both begin at the same word.
 fn run_calls(
     table: Table,
     calls: &[u32],
@@ -104,8 +104,8 @@ pub fn run_call(table: Table, medium: &mut [u32], number: u32, subject: u32, amo
 // Runs as many of the encoded calls as both slices have room for on a started table, and answers their number.
 pub fn replay(capacity: u32, calls: &[u32], medium: &mut [u32], replies: &mut [u32]) -> usize
     ensures number { λ r. ⌜ r ≡ runs capacity (now (calls .entry)) (now (replies .entry)) ⌝ }
-    ensures words { λ r. ⌜ now (medium .exit) ≡ after (started capacity (now (medium .entry))) (callsBelow (now (calls .entry)) r) .medium ⌝ }
-    ensures replies { λ r. ⌜ now (replies .exit) ≡ withReplies (replyAt (started capacity (now (medium .entry))) (now (calls .entry))) r (now (replies .entry)) ⌝ }
+    ensures words { λ r. ⌜ now (medium .exit) ≡ after (startState capacity (now (medium .entry))) (callsBelow (now (calls .entry)) r) .medium ⌝ }
+    ensures replies { λ r. ⌜ now (replies .exit) ≡ withReplies (replyAt (startState capacity (now (medium .entry))) (now (calls .entry))) r (now (replies .entry)) ⌝ }
     ensures ledger { λ r. ⌜ LedgerWords capacity (now (medium .entry)) (now (calls .entry)) r (now (replies .exit)) ⌝ }
 {
     let begun = servers::start(capacity);
@@ -118,7 +118,7 @@ pub fn replay(capacity: u32, calls: &[u32], medium: &mut [u32], replies: &mut [u
     n
 }
 
-// Runs encoded calls as replay does, on a table lent as 1,026 words. Where there are fewer, it runs none.
+// Runs encoded calls on a table lent as 1,026 words, and stores the table back. Where there are fewer words, it runs none.
 pub fn resume(table: &mut [u32], calls: &[u32], medium: &mut [u32], replies: &mut [u32]) -> usize
     ensures number { λ r. ⌜ r ≡ resumes (now (table .entry)) (now (calls .entry)) (now (replies .entry)) ⌝ }
     ensures table { λ r. ⌜ now (table .exit) ≡ withTable (now (table .entry)) (after (lent (now (table .entry)) (now (medium .entry))) (callsBelow (now (calls .entry)) r) .table) ⌝ }

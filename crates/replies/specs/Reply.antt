@@ -1,4 +1,4 @@
--- Replies in document 01's numbers, and what each case of an answer is in them.
+-- Replies in document 01's numbers, and the reply that each case of an answer is.
 use Prim.Native.Nat.{ℕ}
 use mathlib.Core.List.{List}
 use Rattle.replies.specs.declared.Refusal.{Refusal}

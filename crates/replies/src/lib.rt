@@ -1,4 +1,4 @@
-// Why a call is refused, what each call answers, both in document 01's numbers, and the number of each call.
+// Why a call is refused and what each call answers, both as enums and in document 01's numbers, and the number of each call.
 mod numbers;
 
 pub use numbers::check_number;
@@ -23,9 +23,9 @@ pub const LOOKUP: u32 = 5;
 pub enum Refusal {
     // 1, foreign table: the table is not sound.
     UnsoundTable,
-    // 2, out of range: the capacity, an id, a value or a weight.
+    // 2, out of range: the capacity, an id, a value or a weight is outside its range.
     OutOfRange,
-    // 3, no such shelf: a server at or above the count, or no server at all.
+    // 3, no such shelf: the server is at or above the count, or there is no server at all.
     NoSuchServer,
     // 4, rack full: there are 256 servers already.
     TooManyServers,
@@ -33,7 +33,7 @@ pub enum Refusal {
     ShortMedium,
     // 6, shelf full: every entry of the write server is used.
     ServerFull,
-    // 7, not blank: a word of the new server or of the target entry.
+    // 7, not blank: a word of the new server or of the target entry is not blank.
     NotBlank,
     // 8, absent: no readable server has a live entry of the id.
     NotFound,

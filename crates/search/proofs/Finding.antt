@@ -18,9 +18,9 @@ use Rattle.medium.proofs.Places.{server-le}
 use Rattle.medium.proofs.Entries.{live-below}
 use Rattle.table.specs.declared.Table.{Table}
 use Rattle.table.specs.Parts.{usedOf, readP, reads}
-use Rattle.search.specs.declared.Found.{Found}
-use Rattle.search.specs.declared.Found.the-variants.{At, Nowhere}
-use Rattle.search.specs.Search.{Search, lastLive, opening, searchBelow, searchFor, foundAt, foundBy}
+use Rattle.search.specs.declared.SearchAnswer.{SearchAnswer}
+use Rattle.search.specs.declared.SearchAnswer.the-variants.{At, Nowhere}
+use Rattle.search.specs.Search.{Search, lastLive, opening, searchBelow, searchFor, answerAt, answerOf}
 
 -- each server lies inside the medium if all do
 pub each-inside : (capacity count k : ℕ) (used : ℕ → ℕ) (m : List ℕ) → AllInside capacity count used m → k < count → Inside capacity k m
@@ -42,19 +42,19 @@ module _ (capacity used : ℕ) (m : List ℕ) (id k j : ℕ) (l : 0 < j) (u : j 
   newest-here d = highest-last (live capacity used m id k) j true l (live-here ∙ d)
 
 -- the answer of a search, with this many servers opened before it
-after : ℕ → Search → Found
-after opened s = foundAt (opened + length (s .opened)) (s .met)
+after : ℕ → Search → SearchAnswer
+after opened s = answerAt (opened + length (s .opened)) (s .met)
 
 -- the same where server k is the last of those: an entry met there, or else the search of the servers below it
-within : ℕ → ℕ → Option ℕ → Search → Found
+within : ℕ → ℕ → Option ℕ → Search → SearchAnswer
 within opened k none below = after opened below
 within opened k (some j) below = At k j opened
 
 after-opening : (opened k : ℕ) (o : Option ℕ) (s : Search) → after opened (opening k o s) ≡ within (opened + 1) k o s
-unfolding after within opening foundAt
+unfolding after within opening answerAt
 after-opening opened k none s =
     let e : opened + suc (length (s .opened)) ≡ opened + 1 + length (s .opened) = omega arith in
-    ap (λ (n : ℕ). foundAt n (s .met)) e
+    ap (λ (n : ℕ). answerAt n (s .met)) e
 after-opening opened k (some j) s = ap (At k j) (omega arith)
 
 module _ (t : Table) (m : List ℕ) (id : ℕ) where
@@ -65,16 +65,16 @@ module _ (t : Table) (m : List ℕ) (id : ℕ) where
   search-last (suc k) b l e = let d : reads t id k ≡ b = rw sub-one at e in rw (sub-one, d)
 
   -- the servers below k are left
-  pub serversLeft : ℕ → ℕ → Found
+  pub serversLeft : ℕ → ℕ → SearchAnswer
   serversLeft opened k = after opened (searchBelow t m id k)
 
   -- besides those, the entries below j of server k
-  pub entriesLeft : ℕ → ℕ → ℕ → Found
+  pub entriesLeft : ℕ → ℕ → ℕ → SearchAnswer
   entriesLeft opened k j = within opened k (highest (live (t .capacity) (usedOf t k) m id k) j) (searchBelow t m id k)
 
-  pub all-left : foundBy (searchFor t m id) ≡ serversLeft 0 (t .count)
-  unfolding foundBy searchFor serversLeft after
-  all-left = ap (λ (n : ℕ). foundAt n (searchBelow t m id (t .count) .met)) (omega arith)
+  pub all-left : answerOf (searchFor t m id) ≡ serversLeft 0 (t .count)
+  unfolding answerOf searchFor serversLeft after
+  all-left = ap (λ (n : ℕ). answerAt n (searchBelow t m id (t .count) .met)) (omega arith)
 
   -- the highest server left; r is what the code's test of it answers
   module _ (opened k : ℕ) (l : 0 < k) {r : Bool} (e : r ≡ exceeds modulus (readP t (k - 1)) (drawOf id (k - 1))) where
@@ -101,5 +101,5 @@ module _ (t : Table) (m : List ℕ) (id : ℕ) where
   no-entry-left opened k = refl
 
   pub no-server-left : (opened : ℕ) → serversLeft opened 0 ≡ Nowhere opened
-  unfolding serversLeft after searchBelow foundAt
+  unfolding serversLeft after searchBelow answerAt
   no-server-left opened = ap Nowhere (omega arith)

@@ -8,8 +8,8 @@ use Rattle.lists.specs.Below.{highest}
 use Rattle.medium.specs.Entry.{live}
 use Rattle.table.specs.declared.Table.{Table}
 use Rattle.table.specs.Parts.{usedOf, reads}
-use Rattle.search.specs.declared.Found.{Found}
-use Rattle.search.specs.declared.Found.the-variants.{At, Nowhere}
+use Rattle.search.specs.declared.SearchAnswer.{SearchAnswer}
+use Rattle.search.specs.declared.SearchAnswer.the-variants.{At, Nowhere}
 
 -- an entry by its server and its number there
 pub record Place : Type 0 where
@@ -38,9 +38,9 @@ unfoldable pub searchFor : Table → List ℕ → ℕ → Search
 searchFor t m id = searchBelow t m id (t .count)
 
 -- what the running search answers: the entry met, if any, and how many servers it opened
-unfoldable pub foundAt : ℕ → Option Place → Found
-foundAt opened none = Nowhere opened
-foundAt opened (some p) = At (p .server) (p .entry) opened
+unfoldable pub answerAt : ℕ → Option Place → SearchAnswer
+answerAt opened none = Nowhere opened
+answerAt opened (some p) = At (p .server) (p .entry) opened
 
-unfoldable pub foundBy : Search → Found
-foundBy s = foundAt (length (s .opened)) (s .met)
+unfoldable pub answerOf : Search → SearchAnswer
+answerOf s = answerAt (length (s .opened)) (s .met)

@@ -3,22 +3,22 @@ ghost use mathlib.Core.Path.{_≡_};
 ghost use Rattle.lists.specs.Below.{nth};
 ghost use Rattle.medium.specs.Entry.{AllInside};
 ghost use Rattle.table.specs.Parts.{column, tableOf, Whole};
-ghost use Rattle.search.specs.Search.{searchFor, foundBy};
+ghost use Rattle.search.specs.Search.{searchFor, answerOf};
 use placement::Fraction;
 use table::Columns;
 use table::Shape;
 
 // What a search meets: the server and the entry there, or nothing; and how many servers it opened.
-pub enum Found {
+pub enum SearchAnswer {
     At(usize, usize, usize),
     Nowhere(usize),
 }
 
 // The entry that a lookup meets, and how many servers it opens.
-pub fn find<'a>(shape: Shape, columns: Columns<'a>, medium: &[u32], id: u32) -> Found
+pub fn find<'a>(shape: Shape, columns: Columns<'a>, medium: &[u32], id: u32) -> SearchAnswer
     requires { ⌜ Whole columns ⌝ }
     requires { ⌜ AllInside (shape .capacity) (shape .count) (nth (column columns 1)) (now medium) ⌝ }
-    ensures { λ r. ⌜ r ≡ foundBy (searchFor (tableOf shape (columns .entry)) (now (medium .entry)) id) ⌝ }
+    ensures { λ r. ⌜ r ≡ answerOf (searchFor (tableOf shape (columns .entry)) (now (medium .entry)) id) ⌝ }
 {
     let capacity = shape.capacity;
     let count = shape.count;
@@ -49,8 +49,8 @@ pub fn find<'a>(shape: Shape, columns: Columns<'a>, medium: &[u32], id: u32) -> 
         }
     }
     if met {
-        Found::At(k, j, opened)
+        SearchAnswer::At(k, j, opened)
     } else {
-        Found::Nowhere(opened)
+        SearchAnswer::Nowhere(opened)
     }
 }

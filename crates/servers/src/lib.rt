@@ -10,18 +10,19 @@ use table::Columns;
 use table::Shape;
 use table::Table;
 
-// An enum holds no array, so the table stands beside the answer.
+// The answer of start and its table. An enum holds no array, so the table stands beside the answer.
 pub struct Started {
     pub answer: Check,
     pub table: Table,
 }
 
-pub struct Placed {
+// The answer of add_server or reweight, and the table after it.
+pub struct Changed {
     pub answer: ServerAnswer,
     pub table: Table,
 }
 
-// A table of no server; a table of all zeros where the capacity is refused.
+// Starts a table of no server, or one of all zeros where the capacity is refused.
 pub fn start(capacity: u32) -> Started
     ensures reply { λ r. ⌜ replyOfCheck (r .answer) ≡ startReply capacity ⌝ }
     ensures table { λ r. ⌜ r .table ≡ startTable capacity ⌝ }
@@ -45,8 +46,8 @@ pub fn start(capacity: u32) -> Started
     }
 }
 
-// One server more, of this weight. The medium is only read.
-pub fn add_server(table: Table, medium: &[u32], weight: u32) -> Placed
+// Adds a server of this weight. The medium is only read.
+pub fn add_server(table: Table, medium: &[u32], weight: u32) -> Changed
     ensures reply { λ r. ⌜ replyOfServer (r .answer) ≡ addServerReply table (now (medium .entry)) weight ⌝ }
     ensures table { λ r. ⌜ r .table ≡ addServerTable table (now (medium .entry)) weight ⌝ }
 {
@@ -62,14 +63,14 @@ pub fn add_server(table: Table, medium: &[u32], weight: u32) -> Placed
     ];
     let check = rows::add_server(shape, columns, medium, weight);
     match check {
-        Check::Refused(refusal) => Placed {
+        Check::Refused(refusal) => Changed {
             answer: ServerAnswer::Refused(refusal),
             table,
         },
         Check::Accepted => {
             let server = table.count;
             let next = upkeep::with_server(table, weight);
-            Placed {
+            Changed {
                 answer: ServerAnswer::Server(server),
                 table: next,
             }
@@ -77,8 +78,8 @@ pub fn add_server(table: Table, medium: &[u32], weight: u32) -> Placed
     }
 }
 
-// Another weight for a server. It has no medium.
-pub fn reweight(table: Table, server: usize, weight: u32) -> Placed
+// Gives a server another weight. This call has no medium.
+pub fn reweight(table: Table, server: usize, weight: u32) -> Changed
     ensures reply { λ r. ⌜ replyOfServer (r .answer) ≡ reweightReply table server weight ⌝ }
     ensures table { λ r. ⌜ r .table ≡ reweightTable table server weight ⌝ }
 {
@@ -94,13 +95,13 @@ pub fn reweight(table: Table, server: usize, weight: u32) -> Placed
     ];
     let check = rows::reweight(shape, columns, server, weight);
     match check {
-        Check::Refused(refusal) => Placed {
+        Check::Refused(refusal) => Changed {
             answer: ServerAnswer::Refused(refusal),
             table,
         },
         Check::Accepted => {
             let next = upkeep::with_weight(table, server, weight);
-            Placed {
+            Changed {
                 answer: ServerAnswer::Server(server),
                 table: next,
             }

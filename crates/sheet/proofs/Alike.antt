@@ -14,7 +14,7 @@ use Rattle.parsing.specs.declared.Line.{Line}
 use Rattle.parsing.specs.declared.Line.the-variants as line
 use Rattle.parsing.specs.Line.{lineOf}
 use Rattle.printing.specs.Print.{question}
-use Rattle.sheet.specs.Sheet.{linesOf, Sheet, started, called, lineRun, run, outputOf}
+use Rattle.sheet.specs.Sheet.{linesOf, Sheet, startRun, callRun, lineRun, run, outputOf}
 
 abbrev fresh : List ℕ → Sheet
 fresh m = record { table = none; medium = m }
@@ -23,7 +23,7 @@ fresh m = record { table = none; medium = m }
 line-alike : (lines : List (List ℕ)) (m m′ : List ℕ) → length m ≡ length m′ → run (fresh m) lines .bytes ≡ run (fresh m′) lines .bytes
     → (L : Line)
     → lineRun (fresh m) L .bytes ++ run (lineRun (fresh m) L .sheet) lines .bytes ≡ lineRun (fresh m′) L .bytes ++ run (lineRun (fresh m′) L .sheet) lines .bytes
-unfolding lineRun called started settle
+unfolding lineRun callRun startRun settle
 line-alike lines m m′ e h (line.Start capacity) = byBool (eqb (firstOf (startRows capacity)) 0)
     (λ a. rw a (ap (λ (w : List ℕ). lineRun (fresh m) (line.Start capacity) .bytes ++ run (record { table = some (startTable capacity); medium = w }) lines .bytes) (ap (λ (n : ℕ). replicate n blank) e)))
     (λ r. rw (r, h))

@@ -26,7 +26,7 @@ use Rattle.parsing.specs.declared.Line.the-variants as line
 use Rattle.letters.specs.Letter.{startLetter}
 use Rattle.printing.specs.Print.{printed, question, answered}
 use Rattle.sheet.specs.declared.InUse.{InUse}
-use Rattle.sheet.specs.Sheet.{Sheet, Done, sheetOf, started, called, lineRun}
+use Rattle.sheet.specs.Sheet.{Sheet, Done, sheetOf, startRun, callRun, lineRun}
 
 -- the first i words blank, the others as lent
 pub blanked : List ℕ → ℕ → List ℕ
@@ -65,7 +65,7 @@ module _ (u : InUse) (m : List ℕ) where
 
   -- a call before the first accepted S
   pub too-early : (number subject amount : ℕ) → u .started ≡ false → lineRun (sheetOf u m) (line.Call number subject amount) ≡ record { bytes = question; sheet = sheetOf u m }
-  unfolding lineRun called sheetOf
+  unfolding lineRun callRun sheetOf
   too-early number subject amount e = rw e
 
   -- and after it, with what the call gives
@@ -74,7 +74,7 @@ module _ (u : InUse) (m : List ℕ) where
       → (let S : State = record { table = u .table; medium = m } in t ≡ nextBy S (callOf number subject amount) .table)
       → (let S : State = record { table = u .table; medium = m } in m′ ≡ nextBy S (callOf number subject amount) .medium)
       → lineRun (sheetOf u m) (line.Call number subject amount) ≡ record { bytes = answered number r; sheet = record { table = some t; medium = m′ } }
-  unfolding lineRun called sheetOf
+  unfolding lineRun callRun sheetOf
   call-run number subject amount e r t m′ er et em = rw (e, er, et, em)
 
   module _ (capacity : ℕ) (r x : Reply) (e : r ≡ x) (f : x ≡ startReply capacity) where
@@ -85,10 +85,10 @@ module _ (u : InUse) (m : List ℕ) where
     bytes = ap (λ (y : Reply). printed startLetter (y .refusal) 0 0) (sym (e ∙ f))
 
     pub start-refused : r .refusal ≢ 0 → lineRun (sheetOf u m) (line.Start capacity) ≡ record { bytes = printed startLetter (r .refusal) 0 0; sheet = sheetOf u m }
-    unfolding lineRun started
+    unfolding lineRun startRun
     start-refused n = rw (bytes, settle-no (startRows capacity) _ _ (λ z. n (number ∙ z)))
 
     pub start-accepted : r .refusal ≡ 0 → (t : Table) (m′ : List ℕ) → t ≡ startTable capacity → m′ ≡ replicate (length m) blank
         → lineRun (sheetOf u m) (line.Start capacity) ≡ record { bytes = printed startLetter (r .refusal) 0 0; sheet = record { table = some t; medium = m′ } }
-    unfolding lineRun started sheetOf
+    unfolding lineRun startRun sheetOf
     start-accepted z t m′ et em = rw (bytes, settle-yes (startRows capacity) _ _ (sym number ∙ z), et, em)

@@ -23,7 +23,7 @@ use Rattle.parsing.specs.Line.{lineOf, endBelow, endOf}
 use Rattle.printing.specs.Print.{printed, question, answered}
 use Rattle.printing.proofs.Printing.{decimal-short, length-line}
 use Rattle.sheet.specs.declared.InUse.{InUse}
-use Rattle.sheet.specs.Sheet.{longer, linesOf, Sheet, Done, sheetOf, started, called, lineRun, run, outputOf, roomFor}
+use Rattle.sheet.specs.Sheet.{longer, linesOf, Sheet, Done, sheetOf, startRun, callRun, lineRun, run, outputOf, outputRoom}
 
 -- at most 35 bytes a line
 short : (letter refusal a b : ℕ) → length (printed letter refusal a b) ≤ 35
@@ -47,15 +47,15 @@ answered-short number r = byBool (eqb number addServerNumber)
     (λ e. rw (f₁, f₂, f₃, f₄, e) (short (letterOf number) (r .refusal) (r .value) (r .opened)))
     (λ f₅. rw (f₁, f₂, f₃, f₄, f₅) question-short)))))
 
-called-short : (s : Sheet) (o : Option Table) (number subject amount : ℕ) → length (called s o number subject amount .bytes) ≤ 35
-unfolding called
-called-short s none number subject amount = question-short
-called-short s (some t) number subject amount = answered-short number _
+call-short : (s : Sheet) (o : Option Table) (number subject amount : ℕ) → length (callRun s o number subject amount .bytes) ≤ 35
+unfolding callRun
+call-short s none number subject amount = question-short
+call-short s (some t) number subject amount = answered-short number _
 
 line-short : (s : Sheet) (L : Line) → length (lineRun s L .bytes) ≤ 35
-unfolding lineRun started
+unfolding lineRun startRun
 line-short s (line.Start capacity) = short startLetter _ 0 0
-line-short s (line.Call number subject amount) = called-short s (s .table) number subject amount
+line-short s (line.Call number subject amount) = call-short s (s .table) number subject amount
 line-short s line.Unreadable = question-short
 
 -- so a line's end leaves room for the next
@@ -173,30 +173,30 @@ lines-few (b ∷ rest) = byBool (eqb b 10)
     (λ e. rw e (longer-few b (linesOf rest) (length rest) (lines-few rest)))
 
 -- the room asked for: two bytes for any input but none, and enough for each line where the lines are run
-module _ (n m : ℕ) (h : roomFor n ≤ m) where
+module _ (n m : ℕ) (h : outputRoom n ≤ m) where
   pub room-question : 0 < n → 2 ≤ m
-  unfolding roomFor question
+  unfolding outputRoom question
   room-question l = byBool (ltb 65536 n)
       (λ e. rw e at h)
       (λ e. omega (arith, rw e at h))
 
   pub room-lines : n ≤ 65536 → 35 * n ≤ m
-  unfolding roomFor
+  unfolding outputRoom
   room-lines l = rw (le-ltb 65536 n l) at h
 
 -- the longest input needs most
-pub room-enough : (n : ℕ) → roomFor n ≤ 2293760
-unfolding roomFor question
+pub room-enough : (n : ℕ) → outputRoom n ≤ 2293760
+unfolding outputRoom question
 room-enough n = byBool (ltb 65536 n)
     (λ e. rw e (omega arith))
     (λ e. rw e (omega (arith, ltb-false 65536 n e)))
 
-output-short : (input m : List ℕ) → length (outputOf input m .bytes) ≤ roomFor (length input)
-unfolding outputOf roomFor
+output-short : (input m : List ℕ) → length (outputOf input m .bytes) ≤ outputRoom (length input)
+unfolding outputOf outputRoom
 output-short input m = byBool (ltb 65536 (length input))
     (λ e. rw e (omega arith))
     (λ e. rw e (omega (arith, run-short (record { table = none; medium = m }) (linesOf input), lines-few input)))
 
 -- so what a run answers lies in its buffer
-pub output-fits : (input m : List ℕ) (r n : ℕ) → r ≡ length (outputOf input m .bytes) → roomFor (length input) ≤ n → r ≤ n
+pub output-fits : (input m : List ℕ) (r n : ℕ) → r ≡ length (outputOf input m .bytes) → outputRoom (length input) ≤ n → r ≤ n
 output-fits input m r n e h = omega (arith, output-short input m)

@@ -25,7 +25,7 @@ use Rattle.encoding.specs.ByNumber.{callOf, replyTo, nextBy}
 use Rattle.letters.specs.Letter.{letters, letterOf, numberFor}
 use Rattle.parsing.specs.Line.{isDigit, digitRun, valueOf, numberAt, spaced, lineBy, hasTwo, last, first, lineOf}
 use Rattle.printing.specs.Print.{digits, decimal, printed, question, answered}
-use Rattle.sheet.specs.Sheet.{longer, linesOf, started, called, lineRun, run, outputOf}
+use Rattle.sheet.specs.Sheet.{longer, linesOf, startRun, callRun, lineRun, run, outputOf}
 
 -- a line each, LF at its end
 pub input : List ℕ
@@ -58,7 +58,7 @@ output =
     76 ∷ 32 ∷ 56 ∷ 32 ∷ 48 ∷ 32 ∷ 50 ∷ 10 ∷
     []
 
--- over as many words as daysheet has
+-- the output over as many words as daysheet has
 pub example : outputOf input (replicate 3072 4294967295) .bytes ≡ output
-unfolding input output allBelow highest orZero upward countBelow total setBelow stepOf nonzero seedOf xorLeft xorRight roundOf drawOf exceeds atLeast raise shareOf writeP takes pick writeServer readable serverAt entryAt bearsAt live blankRun burnAll marksOn marksOver invalidations readSound serverSound sound withServer withWeight oneMore withEntry firstOf settle replyBy lastLive opening searchBelow searchFor startRows startReply startTable addServerRows addServerReply addServerTable reweightRows reweightReply reweightTable short readyRows target entryRows writeRows writeMarks writeBurns writeReply writeTable writeMedium isMet deleteRows deleteMarks deleteReply deleteMedium lookupRows metReply lookupReply reply next callOf replyTo nextBy isDigit digitRun valueOf numberAt spaced letters letterOf numberFor lineBy hasTwo last first lineOf longer linesOf digits decimal printed question answered started called lineRun run outputOf
+unfolding input output allBelow highest orZero upward countBelow total setBelow stepOf nonzero seedOf xorLeft xorRight roundOf drawOf exceeds atLeast raise shareOf writeP takes pick writeServer readable serverAt entryAt bearsAt live blankRun burnAll marksOn marksOver invalidations readSound serverSound sound withServer withWeight oneMore withEntry firstOf settle replyBy lastLive opening searchBelow searchFor startRows startReply startTable addServerRows addServerReply addServerTable reweightRows reweightReply reweightTable short readyRows target entryRows writeRows writeMarks writeBurns writeReply writeTable writeMedium isMet deleteRows deleteMarks deleteReply deleteMedium lookupRows metReply lookupReply reply next callOf replyTo nextBy isDigit digitRun valueOf numberAt spaced letters letterOf numberFor lineBy hasTwo last first lineOf longer linesOf digits decimal printed question answered startRun callRun lineRun run outputOf
 example = refl

@@ -32,7 +32,7 @@ pub record Sheet : Type 0 where
   pub table : Option Table
   pub medium : List ℕ
 
--- as running code holds it
+-- the sheet that running code holds
 unfoldable pub sheetOf : InUse → List ℕ → Sheet
 sheetOf u m = record { table = cond (u .started) (some (u .table)) none; medium = m }
 
@@ -42,16 +42,16 @@ pub record Done : Type 0 where
   pub sheet : Sheet
 
 -- an accepted S starts a table and blanks the words; a refused one keeps the table in use
-unfoldable pub started : Sheet → ℕ → Done
-started s capacity = record {
+unfoldable pub startRun : Sheet → ℕ → Done
+startRun s capacity = record {
   bytes = printed startLetter (startReply capacity .refusal) 0 0;
   sheet = settle (startRows capacity) (record { table = some (startTable capacity); medium = replicate (length (s .medium)) blank }) s;
 }
 
 -- before the first accepted S a call prints a question mark
-unfoldable pub called : Sheet → Option Table → ℕ → ℕ → ℕ → Done
-called s none number subject amount = record { bytes = question; sheet = s }
-called s (some t) number subject amount =
+unfoldable pub callRun : Sheet → Option Table → ℕ → ℕ → ℕ → Done
+callRun s none number subject amount = record { bytes = question; sheet = s }
+callRun s (some t) number subject amount =
     let S : State = record { table = t; medium = s .medium } in
     let o = callOf number subject amount in
     record {
@@ -60,8 +60,8 @@ called s (some t) number subject amount =
     }
 
 unfoldable pub lineRun : Sheet → Line → Done
-lineRun s (line.Start capacity) = started s capacity
-lineRun s (line.Call number subject amount) = called s (s .table) number subject amount
+lineRun s (line.Start capacity) = startRun s capacity
+lineRun s (line.Call number subject amount) = callRun s (s .table) number subject amount
 lineRun s line.Unreadable = record { bytes = question; sheet = s }
 
 unfoldable pub run : Sheet → List (List ℕ) → Done
@@ -80,6 +80,6 @@ outputOf input m =
     let s : Sheet = record { table = none; medium = m } in
     cond (ltb maxInput (length input)) (record { bytes = question; sheet = s }) (run s (linesOf input))
 
--- bytes of output that an input of n bytes needs at most
-unfoldable pub roomFor : ℕ → ℕ
-roomFor n = cond (ltb maxInput n) (length question) (longestLine * n)
+-- how many bytes of output an input of n bytes needs at most
+unfoldable pub outputRoom : ℕ → ℕ
+outputRoom n = cond (ltb maxInput n) (length question) (longestLine * n)

@@ -5,7 +5,7 @@ ghost use mathlib.Core.Path.{_≡_};
 ghost use Prim.Native.Nat.{_≤_};
 ghost use lib.ListN.{length};
 ghost use lib.Seq.{sets};
-ghost use Rattle.sheet.specs.Sheet.{outputOf, roomFor};
+ghost use Rattle.sheet.specs.Sheet.{outputOf, outputRoom};
 use table::Table;
 
 // Bytes of the longest input.
@@ -18,7 +18,7 @@ struct InUse {
 }
 
 // The position after what a line printed, and the table in use after it.
-struct Ran {
+struct AfterLine {
     pub next: usize,
     pub in_use: InUse,
 }
@@ -26,7 +26,7 @@ struct Ran {
 // Puts a sheet's output at the start of the buffer and answers its number of bytes. A byte of input prints at most 35; an input
 // that is too long prints two bytes in all.
 pub fn run(input: &[u8], medium: &mut [u32], out: &mut [u8]) -> usize
-    requires { ⌜ roomFor (length (now input)) ≤ length (now out) ⌝ }
+    requires { ⌜ outputRoom (length (now input)) ≤ length (now out) ⌝ }
     ensures number { λ r. ⌜ r ≡ length (outputOf (now (input .entry)) (now (medium .entry)) .bytes) ⌝ }
     ensures bytes { λ _. ⌜ now (out .exit) ≡ sets (now (out .entry)) 0 (outputOf (now (input .entry)) (now (medium .entry)) .bytes) ⌝ }
     ensures words { λ _. ⌜ now (medium .exit) ≡ outputOf (now (input .entry)) (now (medium .entry)) .sheet .medium ⌝ }

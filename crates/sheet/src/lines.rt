@@ -8,8 +8,8 @@ ghost use Rattle.parsing.specs.declared.Line.the-variants as line;
 ghost use Rattle.parsing.specs.Line.{lineOf};
 ghost use Rattle.printing.specs.Print.{longestLine, question};
 ghost use Rattle.sheet.specs.Sheet.{sheetOf, lineRun};
+use crate::AfterLine;
 use crate::InUse;
-use crate::Ran;
 use parsing::Line;
 use parsing::Parsed;
 
@@ -24,19 +24,25 @@ fn blank_all(words: &mut [u32])
     }
 }
 
-// The question mark of a line that can't be read, or comes before the first accepted S.
-fn ask(in_use: InUse, out: &mut [u8], at: usize) -> Ran
+// Prints the question mark of a line that can't be read, or comes before the first accepted S.
+fn ask(in_use: InUse, out: &mut [u8], at: usize) -> AfterLine
     requires { ⌜ at + 2 ≤ length (now out) ⌝ }
     ensures next { λ r. ⌜ r .next ≡ at + length question ⌝ }
     ensures bytes { λ _. ⌜ now (out .exit) ≡ sets (now (out .entry)) at question ⌝ }
     ensures kept { λ r. ⌜ r .in_use ≡ in_use ⌝ }
 {
     let next = printing::put_question(out, at);
-    Ran { next, in_use }
+    AfterLine { next, in_use }
 }
 
-// A start that is refused keeps the table in use.
-fn run_start(in_use: InUse, medium: &mut [u32], capacity: u32, out: &mut [u8], at: usize) -> Ran
+// Runs a start. One that is refused keeps the table in use.
+fn run_start(
+    in_use: InUse,
+    medium: &mut [u32],
+    capacity: u32,
+    out: &mut [u8],
+    at: usize,
+) -> AfterLine
     requires { ⌜ at + longestLine ≤ length (now out) ⌝ }
     ensures next { λ r. ⌜ r .next ≡ at + length (lineRun (sheetOf in_use (now (medium .entry))) (line.Start capacity) .bytes) ⌝ }
     ensures bytes { λ _. ⌜ now (out .exit) ≡ sets (now (out .entry)) at (lineRun (sheetOf in_use (now (medium .entry))) (line.Start capacity) .bytes) ⌝ }
@@ -47,11 +53,11 @@ fn run_start(in_use: InUse, medium: &mut [u32], capacity: u32, out: &mut [u8], a
     let reply = replies::start_reply(answer);
     let next = printing::put_answer(out, at, letters::START, reply.refusal, 0, 0);
     if reply.refusal != 0 {
-        return Ran { next, in_use };
+        return AfterLine { next, in_use };
     }
     blank_all(medium);
     let table = begun.table;
-    Ran {
+    AfterLine {
         next,
         in_use: InUse {
             started: true,
@@ -60,7 +66,7 @@ fn run_start(in_use: InUse, medium: &mut [u32], capacity: u32, out: &mut [u8], a
     }
 }
 
-// A call by its number; before the first accepted S it is not run.
+// Runs a call by its number; before the first accepted S it is not run.
 fn run_call(
     in_use: InUse,
     medium: &mut [u32],
@@ -69,7 +75,7 @@ fn run_call(
     amount: u32,
     out: &mut [u8],
     at: usize,
-) -> Ran
+) -> AfterLine
     requires { ⌜ at + longestLine ≤ length (now out) ⌝ }
     ensures next { λ r. ⌜ r .next ≡ at + length (lineRun (sheetOf in_use (now (medium .entry))) (line.Call number subject amount) .bytes) ⌝ }
     ensures bytes { λ _. ⌜ now (out .exit) ≡ sets (now (out .entry)) at (lineRun (sheetOf in_use (now (medium .entry))) (line.Call number subject amount) .bytes) ⌝ }
@@ -82,7 +88,7 @@ fn run_call(
     let ran = replay::run_call(table, medium, number, subject, amount);
     let next = printing::put_reply(out, at, number, ran.reply);
     let after = ran.table;
-    Ran {
+    AfterLine {
         next,
         in_use: InUse {
             started: true,
@@ -92,7 +98,7 @@ fn run_call(
 }
 
 // Runs what a line asks for.
-fn run_read(in_use: InUse, medium: &mut [u32], line: Line, out: &mut [u8], at: usize) -> Ran
+fn run_read(in_use: InUse, medium: &mut [u32], line: Line, out: &mut [u8], at: usize) -> AfterLine
     requires { ⌜ at + longestLine ≤ length (now out) ⌝ }
     ensures next { λ r. ⌜ r .next ≡ at + length (lineRun (sheetOf in_use (now (medium .entry))) line .bytes) ⌝ }
     ensures bytes { λ _. ⌜ now (out .exit) ≡ sets (now (out .entry)) at (lineRun (sheetOf in_use (now (medium .entry))) line .bytes) ⌝ }
@@ -113,8 +119,14 @@ fn run_read(in_use: InUse, medium: &mut [u32], line: Line, out: &mut [u8], at: u
     }
 }
 
-// Each number is taken out of the line's bytes, or the line gets its question mark.
-pub fn run_line(in_use: InUse, medium: &mut [u32], line: &[u8], out: &mut [u8], at: usize) -> Ran
+// Runs a line. Each number is taken out of its bytes, or the line gets its question mark.
+pub fn run_line(
+    in_use: InUse,
+    medium: &mut [u32],
+    line: &[u8],
+    out: &mut [u8],
+    at: usize,
+) -> AfterLine
     requires { ⌜ at + longestLine ≤ length (now out) ⌝ }
     ensures next { λ r. ⌜ r .next ≡ at + length (lineRun (sheetOf in_use (now (medium .entry))) (lineOf (now (line .entry))) .bytes) ⌝ }
     ensures bytes { λ _. ⌜ now (out .exit) ≡ sets (now (out .entry)) at (lineRun (sheetOf in_use (now (medium .entry))) (lineOf (now (line .entry))) .bytes) ⌝ }

@@ -1,5 +1,5 @@
--- A table taken apart and put together again: its shape, which are its numbers that are not one for each server, and its four
--- columns, in the order of the fields.
+-- A table taken apart and put together again: its shape, which is the numbers that it has once and not for each
+-- server, and its four columns, in the order of the fields.
 use Prim.Native.Nat.{ℕ}
 use mathlib.Core.Bool.{Bool}
 use mathlib.Core.List.{List, []}
@@ -26,7 +26,7 @@ tableBy shape weights used numerators denominators = record {
   denominators = denominators;
 }
 
--- the columns lent together: what stands in column i
+-- what stands in column i of the columns lent together
 abbrev pub column : List (RefT (List ℕ)) → ℕ → List ℕ
 column columns i = getD columns i (record { ptr = (0, 0); name = 0; now = [] }) .now
 

@@ -10,7 +10,7 @@ use Rattle.placement.specs.Rule.{writeP}
 use Rattle.table.specs.declared.Table.{Table}
 use Rattle.table.specs.Parts.{entriesOf, weightOf, usedOf, readP}
 
--- ReadP in range, and at least WriteP
+-- ReadP is in range and at least WriteP
 unfoldable pub readSound : Fraction → Fraction → Bool
 readSound read write =
     leb 1 (read .den)

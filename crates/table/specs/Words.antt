@@ -54,6 +54,6 @@ tableFrom words =
 unfoldable pub wordsOf : Table → List ℕ
 wordsOf t = (t .capacity ∷ t .count ∷ []) ++ t .weights ++ t .used ++ t .numerators ++ t .denominators
 
--- words with a table in front; where there are too few for one, as lent
+-- the words with a table in front, and the words as lent where they are too few for one
 unfoldable pub withTable : List ℕ → Table → List ℕ
 withTable words t = cond (ltb (length words) tableLength) words (wordsOf t ++ drop tableLength words)

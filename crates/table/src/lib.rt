@@ -35,7 +35,7 @@ pub struct Table {
 // takes them asks that each has a number for each server that there may be (`Whole`).
 pub type Columns<'a> = [&'a [u32]; 4];
 
-// The numbers of a table that are not one for each server.
+// The numbers that a table has once, and not for each server.
 pub struct Shape {
     pub capacity: u32,
     pub count: usize,

@@ -68,7 +68,7 @@ pub fn count_entry(used: &mut [u32], server: usize)
     used[server] += 1;
 }
 
-// Counts so in the column of a table by value. A field that is an array can be lent as an array alone.
+// Counts the entry in the column of a table by value: a field that is an array can be lent as an array alone.
 fn count_in(used: &mut Column, server: usize)
     requires { ⌜ server < length (now used) ⌝ }
     requires { ⌜ nth (now used) server ≤ maxCapacity ⌝ }

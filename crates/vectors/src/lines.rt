@@ -2,7 +2,7 @@
 ghost use Prim.Native.Nat.{_<_, _≤_};
 ghost use lib.ListN.{length};
 
-pub struct Line {
+pub struct Case {
     pub call: usize,
     pub next: usize,
     pub letter: u8,
@@ -32,7 +32,7 @@ fn longer(number: u32, digit: u8) -> u32 {
 
 // The numbers up to the line's end, a blank before each: the first blank leads from the last place to the first.
 fn numbers(input: &[u8], from: usize) -> [u32; 8] {
-    let mut found: [u32; 8] = [0; 8];
+    let mut values: [u32; 8] = [0; 8];
     let mut k: usize = 7;
     let mut i = from;
     while i < input.len() {
@@ -43,28 +43,28 @@ fn numbers(input: &[u8], from: usize) -> [u32; 8] {
         if b == b' ' {
             k = (k + 1) % 8;
         } else {
-            found[k] = longer(found[k], b);
+            values[k] = longer(values[k], b);
         }
         i += 1;
     }
-    found
+    values
 }
 
-// The line that begins at a position.
-pub fn read(input: &[u8], at: usize) -> Line
+// The case whose line begins at a position.
+pub fn read(input: &[u8], at: usize) -> Case
     requires { ⌜ at < length (now input) ⌝ }
     ensures { λ r. ⌜ (at < r .call) × (at < r .next) × (r .call ≤ length (now (input .entry))) ⌝ }
 {
     let call = after(input, at, b'|');
     if call == input.len() {
-        return Line {
+        return Case {
             call,
             next: call,
             letter: 0,
             numbers: [0; 8],
         };
     }
-    Line {
+    Case {
         call,
         next: after(input, call, b'\n'),
         letter: input[call],

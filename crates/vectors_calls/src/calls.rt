@@ -7,7 +7,7 @@ pub fn start(capacity: u32) -> Table {
     started.table
 }
 
-// Refusal and capacity.
+// Starts a table and prints refusal and capacity.
 fn start_anew(capacity: u32, text: &[u8]) -> Table {
     let started = servers::start(capacity);
     let answer = started.answer;
@@ -17,29 +17,29 @@ fn start_anew(capacity: u32, text: &[u8]) -> Table {
 }
 
 fn add_server(table: Table, medium: &[u32], weight: u32, text: &[u8]) -> Table {
-    let placed = servers::add_server(table, medium, weight);
-    let answer = placed.answer;
+    let changed = servers::add_server(table, medium, weight);
+    let answer = changed.answer;
     print::reply(text, replies::server_reply(answer));
-    placed.table
+    changed.table
 }
 
-// This many servers of weight 1, with no reply printed.
+// Adds this many servers of weight 1 and prints no reply.
 fn add_servers(table: Table, medium: &[u32], n: u32) -> Table {
     let mut next = table;
     let mut i: u32 = 0;
     while i < n {
-        let placed = servers::add_server(next, medium, 1);
-        next = placed.table;
+        let changed = servers::add_server(next, medium, 1);
+        next = changed.table;
         i += 1;
     }
     next
 }
 
 fn reweight(table: Table, server: usize, weight: u32, text: &[u8]) -> Table {
-    let placed = servers::reweight(table, server, weight);
-    let answer = placed.answer;
+    let changed = servers::reweight(table, server, weight);
+    let answer = changed.answer;
     print::reply(text, replies::server_reply(answer));
-    placed.table
+    changed.table
 }
 
 fn write(table: Table, medium: &mut [u32], id: u32, value: u32, text: &[u8]) -> Table {
@@ -89,7 +89,7 @@ fn burn(table: Table, medium: &mut [u32], i: u32, word: u32) -> Table {
     table
 }
 
-// A adds servers with no reply printed, V shows a word; the others are the day sheet's letters.
+// A adds servers and prints no reply, V shows a word; the others are the day sheet's letters.
 fn run_reading(table: Table, medium: &[u32], letter: u8, a: u32, b: u32, text: &[u8]) -> Table {
     match letter {
         b'S' => return start_anew(a, text),

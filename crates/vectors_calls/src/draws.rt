@@ -23,8 +23,8 @@ fn picked(first: u32, second: u32, third: u32) -> u64
     placement::write_server(&weights, 3, 626627286) as u64
 }
 
-// p the step of a server, s the seed and d the draw of an id on a server, r a seed after some rounds, k the pick among three
-// servers of these weights.
+// p is for the step of a server, s for the seed and d for the draw of an id on a server, r for a seed after some rounds, and k
+// for the pick among three servers of these weights.
 fn number(letter: u8, a: u32, b: u32, c: u32) -> u64 {
     match letter {
         b'p' => placement::step((a % 256) as usize) as u64,
@@ -43,7 +43,7 @@ fn at_least(a: u32, b: u32, c: u32, d: u32) -> bool {
     placement::at_least(Fraction { num: a, den: b }, Fraction { num: c, den: d })
 }
 
-// e whether a fraction exceeds a draw, l whether it is at least another; the others are numbers.
+// e tells whether a fraction exceeds a draw, and l whether it is at least another; the other letters give numbers.
 pub fn show_draw(letter: u8, numbers: [u32; 8], text: &[u8]) {
     let a = numbers[0];
     let b = numbers[1];

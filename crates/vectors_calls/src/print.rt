@@ -48,7 +48,7 @@ pub fn test(text: &[u8], yes: bool) {
     }
 }
 
-// Refusal, server, value, opened and invalidated.
+// Prints refusal, server, value, opened and invalidated.
 pub fn reply(text: &[u8], r: Reply) {
     if text.len() == 0 {
         return;

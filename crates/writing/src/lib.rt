@@ -29,7 +29,7 @@ fn enter(medium: &mut [u32], at: usize, id: u32, value: u32)
     medium[at] = id;
 }
 
-// Write on a table whose columns are borrowed: the value and the id go to the write server's next entry, then each earlier
+// Writes on a table whose columns are borrowed: the value and the id go to the write server's next entry, then each earlier
 // live entry of the id on readable servers at or above it is invalidated. The caller counts the entry as used on the server
 // that is answered.
 pub fn write_in<'a>(
@@ -58,7 +58,7 @@ pub fn write_in<'a>(
     }
 }
 
-// Write on a table by value.
+// Writes on a table by value.
 pub fn write(table: Table, medium: &mut [u32], id: u32, value: u32) -> Written
     ensures reply { λ r. ⌜ replyOfWrite (r .answer) ≡ writeReply table (now (medium .entry)) id value ⌝ }
     ensures table { λ r. ⌜ r .table ≡ writeTable table (now (medium .entry)) id value ⌝ }

@@ -8,7 +8,7 @@ use borrow.Author.Tests.{not-true, not-false}
 use Rattle.table.specs.declared.Table.{Table}
 use Rattle.table.specs.Words.{tableFrom}
 use Rattle.batch.specs.Batch.{batchReply}
-use Rattle.batch_words.proofs.Storing.{Fits, they-fit, few-ids, opened-small, mounts-small, length-order, batch-short, batch-refused, batch-done}
+use Rattle.batch_words.proofs.Storing.{Fits, long-runs, few-ids, opened-small, mounts-small, length-order, batch-short, batch-refused, batch-done}
 use Rattle.batch_words.proofs.lookup_batch.Statement.{statement}
 use Rattle.batch_words.proofs.lookup_batch.Tie as tie
 
@@ -26,10 +26,10 @@ abbrev R : tie.After-store-front-arg2 → tie.After-store-replies
 R c = c .before .before .before .before .before
 
 -- the runs are long enough
-fit : (c : tie.Else1) → let a = S (c .before) .args in Fits (length (a .ids .now)) (a .table .now) (a .replies .now) (a .order .now) (a .mounts .now)
-fit c =
+long-here : (c : tie.Else1) → let a = S (c .before) .args in Fits (length (a .ids .now)) (a .table .now) (a .replies .now) (a .order .now) (a .mounts .now)
+long-here c =
     let a = S (c .before) .args in
-    they-fit (length (a .ids .now)) (a .table .now) (a .replies .now) (a .order .now) (a .mounts .now) (sym (c .before .fits2 .ensures) ∙ not-false _ (c .if1 .left))
+    long-runs (length (a .ids .now)) (a .table .now) (a .replies .now) (a .order .now) (a .mounts .now) (sym (c .before .fits2 .ensures) ∙ not-false _ (c .if1 .left))
 
 -- the answer to the list
 answer : (c : tie.After-lookup-batch) → let a = S (F c) .args in c .lookup-batch .result ≡ batchReply (tableFrom (a .table .now)) (a .medium .now) (a .ids .now)
@@ -54,7 +54,7 @@ returns c =
     batch-short (a .table .now) (a .medium .now) (a .ids .now) (a .replies .now) (a .order .now) (a .mounts .now) _ (f .fits2 .ensures) (not-true _ (c .if1 .taken))
 
 table-from-requires : tie.Need-table-from-requires
-table-from-requires c κs = fit c .hasTable
+table-from-requires c κs = long-here c .hasTable
 
 lookup-batch-requires : tie.Need-lookup-batch-requires
 lookup-batch-requires c κs = search needs
@@ -84,7 +84,7 @@ store-replies-requires c κs =
     let b = B c in
     let a = S (F b) .args in (
       few-ids (tableFrom (a .table .now)) (a .medium .now) (a .ids .now) _ (answer b) (accepted c),
-      (fit (b .before .before) .hasReplies, opened-small (tableFrom (a .table .now)) (a .medium .now) (a .ids .now) _ (answer b) (accepted c)),
+      (long-here (b .before .before) .hasReplies, opened-small (tableFrom (a .table .now)) (a .medium .now) (a .ids .now) _ (answer b) (accepted c)),
     )
 
 store-front-requires : tie.Need-store-front-requires
@@ -93,7 +93,7 @@ store-front-requires c κs =
     let b = B q in
     let a = S (F b) .args in (
       length-order (tableFrom (a .table .now)) (a .medium .now) (a .ids .now) _ (answer b) (accepted q),
-      (few-ids (tableFrom (a .table .now)) (a .medium .now) (a .ids .now) _ (answer b) (accepted q), fit (b .before .before) .hasOrder),
+      (few-ids (tableFrom (a .table .now)) (a .medium .now) (a .ids .now) _ (answer b) (accepted q), long-here (b .before .before) .hasOrder),
     )
 
 -- the number of servers opened
@@ -107,7 +107,7 @@ cast-mounts : tie.Need-cast-mounts
 cast-mounts c = omega (arith, small (R (c .before .before .before) .before))
 
 slice-write-mounts : tie.Need-slice-write-mounts
-slice-write-mounts c = let b = B (R (c .before .before .before) .before) in omega (arith, fit (b .before .before) .hasMounts)
+slice-write-mounts c = let b = B (R (c .before .before .before) .before) in omega (arith, long-here (b .before .before) .hasMounts)
 
 same-length-7 : tie.Need-same-length-7
 same-length-7 c = search needs

@@ -11,14 +11,14 @@ use Rattle.encoding.proofs.run_change.Tie as tie
 add-server-requires : tie.Need-add-server-requires
 add-server-requires c κs = search needs
 
-from-placed-requires : tie.Need-from-placed-requires
-from-placed-requires c κs = search needs
+from-changed-requires : tie.Need-from-changed-requires
+from-changed-requires c κs = search needs
 
 reweight-requires : tie.Need-reweight-requires
 reweight-requires c κs = search needs
 
-from-placed-requires-2 : tie.Need-from-placed-requires-2
-from-placed-requires-2 c κs = search needs
+from-changed-requires-2 : tie.Need-from-changed-requires-2
+from-changed-requires-2 c κs = search needs
 
 no-call-requires : tie.Need-no-call-requires
 no-call-requires c κs = search needs
@@ -30,13 +30,13 @@ returns : tie.Need-returns
 unfolding callOf replyTo nextBy reply next
 returns c =
     let a = c .before in
-    rw (a .before .before .match .keys1) (c .from-placed .ensures .0 ∙ a .add-server .ensures .0, (c .from-placed .ensures .1 ∙ a .add-server .ensures .1, refl))
+    rw (a .before .before .match .keys1) (c .from-changed .ensures .0 ∙ a .add-server .ensures .0, (c .from-changed .ensures .1 ∙ a .add-server .ensures .1, refl))
 
 returns-2 : tie.Need-returns-2
 unfolding callOf replyTo nextBy reply next
 returns-2 c =
     let a = c .before in
-    rw (a .before .match .keys2) (c .from-placed2 .ensures .0 ∙ a .reweight .ensures .0, (c .from-placed2 .ensures .1 ∙ a .reweight .ensures .1, refl))
+    rw (a .before .match .keys2) (c .from-changed2 .ensures .0 ∙ a .reweight .ensures .0, (c .from-changed2 .ensures .1 ∙ a .reweight .ensures .1, refl))
 
 returns-3 : tie.Need-returns-3
 unfolding replyTo nextBy
@@ -53,9 +53,9 @@ run-change-spec =
     tie.close
     (tie.spec
     add-server-requires
-    from-placed-requires
+    from-changed-requires
     reweight-requires
-    from-placed-requires-2
+    from-changed-requires-2
     no-call-requires
     same-length
     returns

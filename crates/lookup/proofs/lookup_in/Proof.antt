@@ -17,7 +17,7 @@ use Rattle.checks.proofs.Passed.{Ready}
 use Rattle.lookup.proofs.Passed.{lookup-accepted}
 use Rattle.search.proofs.Finding.{each-inside}
 use Rattle.search.proofs.Searches.{met-some}
-use Rattle.lookup.proofs.Looked.{found-some, looked-none, looked-some, lookup-refused}
+use Rattle.lookup.proofs.Looked.{answer-some, looked-none, looked-some, lookup-refused}
 use Rattle.lookup.proofs.lookup_in.Statement.{statement}
 use Rattle.lookup.proofs.lookup_in.Tie as tie
 
@@ -65,25 +65,25 @@ E c = c .before
 abbrev R : tie.After-find → tie.After-ready
 R c = E c .before .before
 
-enum-known-found : tie.Need-enum-known-found
-enum-known-found c = search needs
+enum-known-answer : tie.Need-enum-known-answer
+enum-known-answer c = search needs
 
-enum-known-found-2 : tie.Need-enum-known-found-2
-enum-known-found-2 c = search needs
+enum-known-answer-2 : tie.Need-enum-known-answer-2
+enum-known-answer-2 c = search needs
 
 returns-2 : tie.Need-returns-2
 unfolding replyOfLookup numberOf
 returns-2 c =
     let f = c .before .before .before in
     let r = R f in
-    looked-none (T r) (M r) (S r .args .id) (accepted-here (E f)) _ (f .find .ensures) (c .before .found .given .1)
+    looked-none (T r) (M r) (S r .args .id) (accepted-here (E f)) _ (f .find .ensures) (c .before .answer .given .1)
 
 -- the entry met: its server is there, and it is used
-met-here : (c : tie.After-found2) → Met (T (R (c .before .before))) (M (R (c .before .before))) (S (R (c .before .before)) .args .id) (record { server = c .found2 .given .0 .0; entry = c .found2 .given .0 .1 .0 })
+met-here : (c : tie.After-answer2) → Met (T (R (c .before .before))) (M (R (c .before .before))) (S (R (c .before .before)) .args .id) (record { server = c .answer2 .given .0 .0; entry = c .answer2 .given .0 .1 .0 })
 met-here c =
     let f = c .before .before in
     let r = R f in
-    met-some (T r) (M r) (S r .args .id) _ (found-some (searchFor (T r) (M r) (S r .args .id)) (f .find .ensures) _ _ _ (c .found2 .given .1) .0)
+    met-some (T r) (M r) (S r .args .id) _ (answer-some (searchFor (T r) (M r) (S r .args .id)) (f .find .ensures) _ _ _ (c .answer2 .given .1) .0)
 
 met-requires : tie.Need-met-requires
 met-requires c κs =
@@ -92,8 +92,8 @@ met-requires c κs =
     let i = ready-here (E f) .inside in
     let g = met-here d in
     let t = T (R f) in
-    let k = d .found2 .given .0 .0 in
-    let j = d .found2 .given .0 .1 .0 in
+    let k = d .answer2 .given .0 .0 in
+    let j = d .answer2 .given .0 .1 .0 in
     let u = live-used (t .capacity) (usedOf t k) (M (R f)) (S (R f) .args .id) k j (g .isLive) in
     (each-inside (t .capacity) (t .count) k (usedOf t) (M (R f)) i (g .below), omega (arith, i .fits k (g .below)))
 
@@ -102,7 +102,7 @@ returns-3 c =
     let d = c .before .before in
     let f = d .before .before in
     let r = R f in
-    rw (c .met .ensures) (looked-some (T r) (M r) (S r .args .id) (accepted-here (E f)) _ _ _ (f .find .ensures) (d .found2 .given .1))
+    rw (c .met .ensures) (looked-some (T r) (M r) (S r .args .id) (accepted-here (E f)) _ _ _ (f .find .ensures) (d .answer2 .given .1))
 
 pub lookup-in-spec : {M : Type 1} → statement M
 lookup-in-spec =
@@ -113,8 +113,8 @@ lookup-in-spec =
     returns
     enum-told
     find-requires
-    enum-known-found
-    enum-known-found-2
+    enum-known-answer
+    enum-known-answer-2
     met-requires
     returns-2
     returns-3)

@@ -11,8 +11,8 @@ use Rattle.lists.proofs.Tests.{true-not-false}
 use Rattle.medium.proofs.Places.{entry-inside}
 use Rattle.table.specs.declared.Table.{Table}
 use Rattle.table.specs.Parts.{tableOf, column}
-use Rattle.search.specs.declared.Found.the-variants.{At}
-use Rattle.search.specs.Search.{searchFor, foundBy}
+use Rattle.search.specs.declared.SearchAnswer.the-variants.{At}
+use Rattle.search.specs.Search.{searchFor, answerOf}
 use Rattle.search.proofs.Finding.{each-inside, serversLeft, entriesLeft, all-left, server-skipped, server-opened, no-server-left, entry-skipped, entry-met, no-entry-left}
 use Rattle.search.proofs.find.Statement.{statement}
 use Rattle.search.proofs.find.Tie as tie
@@ -21,7 +21,7 @@ abbrev Inv-loop : tie.InvT-loop
 Inv-loop t2 medium id capacity count used numerators denominators entries met₀ opened j₀ k met j =
     (j ≤ nth (column t2 1) k) × (met ≡ false)
     × (let t = tableOf (record { capacity = capacity; count = count }) t2 in
-    foundBy (searchFor t medium id) ≡ entriesLeft t medium id opened k j)
+    answerOf (searchFor t medium id) ≡ entriesLeft t medium id opened k j)
 
 abbrev μ-loop : tie.MeasureT-loop
 μ-loop t2 medium id capacity count used numerators denominators entries met₀ opened j₀ k met j = j
@@ -30,7 +30,7 @@ abbrev Inv-search : tie.InvT-search
 Inv-search t2 medium id capacity count used numerators denominators entries met₀ opened₀ j₀ k₀ met opened j k =
     (opened + k ≤ count) × (met ≡ false)
     × (let t = tableOf (record { capacity = capacity; count = count }) t2 in
-    foundBy (searchFor t medium id) ≡ serversLeft t medium id opened k)
+    answerOf (searchFor t medium id) ≡ serversLeft t medium id opened k)
 
 abbrev μ-search : tie.MeasureT-search
 μ-search t2 medium id capacity count used numerators denominators entries met₀ opened₀ j₀ k₀ met opened j k = k
@@ -183,7 +183,7 @@ returns c =
     (λ w. absurd (true-not-false (sym (w .1) ∙ c .if3 .taken) (q .search .inv .1)))
     (λ w.
     let l = w .6 in
-    let e : foundBy (searchFor (T q) (M q) (N q)) ≡ At (K q) (l .j - 1) (q .search .opened + 1) =
+    let e : answerOf (searchFor (T q) (M q) (N q)) ≡ At (K q) (l .j - 1) (q .search .opened + 1) =
     l .inv .2 ∙ entry-met (T q) (M q) (N q) (q .search .opened + 1) (K q) (l .j) (w .7 .taken) (l .inv .0) (w .8 .ensures) (w .9 .ensures) (w .10 .taken) in
     rw (w .14, w .13, w .12) (sym e))
     (c .before .search-test .came)

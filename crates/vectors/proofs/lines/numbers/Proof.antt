@@ -8,10 +8,10 @@ use Rattle.vectors.proofs.lines.numbers.Statement.{statement}
 use Rattle.vectors.proofs.lines.numbers.Tie as tie
 
 abbrev Inv-loop : tie.InvT-loop
-Inv-loop input from found₀ k₀ i₀ found k i = k < 8
+Inv-loop input from values₀ k₀ i₀ values k i = k < 8
 
 abbrev μ-loop : tie.MeasureT-loop
-μ-loop input from found₀ k₀ i₀ found k i = length input - i
+μ-loop input from values₀ k₀ i₀ values k i = length input - i
 
 loop-holds : tie.Need-loop-holds Inv-loop μ-loop
 loop-holds c = search needs
@@ -31,11 +31,11 @@ array-read-longer c = search needs
 longer-requires : tie.Need-longer-requires Inv-loop μ-loop
 longer-requires c κs = search needs
 
-mul-found : tie.Need-mul-found Inv-loop μ-loop
-mul-found c = search needs
+mul-values : tie.Need-mul-values Inv-loop μ-loop
+mul-values c = search needs
 
-array-write-found : tie.Need-array-write-found Inv-loop μ-loop
-array-write-found c = search needs
+array-write-values : tie.Need-array-write-values Inv-loop μ-loop
+array-write-values c = search needs
 
 add-i : tie.Need-add-i Inv-loop μ-loop
 add-i c = search needs
@@ -64,8 +64,8 @@ numbers-spec =
     mul-longer
     array-read-longer
     longer-requires
-    mul-found
-    array-write-found
+    mul-values
+    array-write-values
     add-i
     loop-less
     loop-again
