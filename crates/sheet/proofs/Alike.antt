@@ -14,7 +14,8 @@ use Rattle.parsing.specs.declared.Line.{Line}
 use Rattle.parsing.specs.declared.Line.the-variants as line
 use Rattle.parsing.specs.Line.{lineOf}
 use Rattle.printing.specs.Print.{question}
-use Rattle.sheet.specs.Sheet.{linesOf, Sheet, startRun, callRun, lineRun, run, outputOf}
+use Rattle.line_run.specs.LineRun.{Sheet, startRun, callRun, lineRun}
+use Rattle.sheet.specs.Sheet.{linesOf, run, outputOf}
 
 abbrev fresh : List ℕ → Sheet
 fresh m = record { table = none; medium = m }

@@ -1,3 +1,2 @@
-mod Running
 pub mod Sheets
 pub mod Alike

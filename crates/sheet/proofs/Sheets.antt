@@ -22,8 +22,9 @@ use Rattle.letters.specs.Letter.{startLetter, letterOf}
 use Rattle.parsing.specs.Line.{lineOf, endBelow, endOf}
 use Rattle.printing.specs.Print.{printed, question, answered}
 use Rattle.printing.proofs.Printing.{decimal-short, length-line}
-use Rattle.sheet.specs.declared.InUse.{InUse}
-use Rattle.sheet.specs.Sheet.{longer, linesOf, Sheet, Done, sheetOf, startRun, callRun, lineRun, run, outputOf, outputRoom}
+use Rattle.line_run.specs.declared.InUse.{InUse}
+use Rattle.line_run.specs.LineRun.{Sheet, Done, sheetOf, startRun, callRun, lineRun}
+use Rattle.sheet.specs.Sheet.{longer, linesOf, run, outputOf, outputRoom}
 
 -- at most 35 bytes a line
 short : (letter refusal a b : ℕ) → length (printed letter refusal a b) ≤ 35

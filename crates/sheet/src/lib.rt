@@ -1,27 +1,13 @@
 // A whole sheet: lines read, calls run, answers printed, over slices alone.
-mod lines;
-
 ghost use mathlib.Core.Path.{_≡_};
 ghost use Prim.Native.Nat.{_≤_};
 ghost use lib.ListN.{length};
 ghost use lib.Seq.{sets};
 ghost use Rattle.sheet.specs.Sheet.{outputOf, outputRoom};
-use table::Table;
+use line_run::InUse;
 
 // Bytes of the longest input.
 pub const MAX_INPUT: usize = 65536;
-
-// The table in use, once a start was accepted; before that the table counts for nothing.
-struct InUse {
-    pub started: bool,
-    pub table: Table,
-}
-
-// The position after what a line printed, and the table in use after it.
-struct AfterLine {
-    pub next: usize,
-    pub in_use: InUse,
-}
 
 // Puts a sheet's output at the start of the buffer and answers its number of bytes. A byte of input prints at most 35; an input
 // that is too long prints two bytes in all.
@@ -42,7 +28,7 @@ pub fn run(input: &[u8], medium: &mut [u32], out: &mut [u8]) -> usize
     let mut at: usize = 0;
     while from < input.len() {
         let end = parsing::line_end(input, from);
-        let ran = lines::run_line(in_use, medium, &input[from..end], out, at);
+        let ran = line_run::run_line(in_use, medium, &input[from..end], out, at);
         in_use = ran.in_use;
         at = ran.next;
         from = end + 1;

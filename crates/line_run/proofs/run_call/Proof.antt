@@ -1,12 +1,12 @@
--- `sheet::lines::run_call` meets its contract.
+-- `line_run::run_call` meets its contract.
 use mathlib.Core.Path.{refl}
 use borrow.Author.Needs.{needs}
 use borrow.Author.Tests.{not-true, not-false}
 use Rattle.encoding.proofs.Calling.{called-small}
-use Rattle.sheet.specs.Sheet.{sheetOf}
-use Rattle.sheet.proofs.Running.{shown, asked, too-early, call-run}
-use Rattle.sheet.proofs.lines.run_call.Statement.{statement}
-use Rattle.sheet.proofs.lines.run_call.Tie as tie
+use Rattle.line_run.specs.LineRun.{sheetOf}
+use Rattle.line_run.proofs.Running.{shown, asked, too-early, call-run}
+use Rattle.line_run.proofs.run_call.Statement.{statement}
+use Rattle.line_run.proofs.run_call.Tie as tie
 
 ask-requires : tie.Need-ask-requires
 ask-requires c κs = search needs

@@ -25,8 +25,8 @@ use Rattle.parsing.specs.declared.Line.{Line}
 use Rattle.parsing.specs.declared.Line.the-variants as line
 use Rattle.letters.specs.Letter.{startLetter}
 use Rattle.printing.specs.Print.{printed, question, answered}
-use Rattle.sheet.specs.declared.InUse.{InUse}
-use Rattle.sheet.specs.Sheet.{Sheet, Done, sheetOf, startRun, callRun, lineRun}
+use Rattle.line_run.specs.declared.InUse.{InUse}
+use Rattle.line_run.specs.LineRun.{Sheet, Done, sheetOf, startRun, callRun, lineRun}
 
 -- the first i words blank, the others as lent
 pub blanked : List ℕ → ℕ → List ℕ

@@ -7,11 +7,22 @@ ghost use Rattle.medium.specs.Word.{blank};
 ghost use Rattle.parsing.specs.declared.Line.the-variants as line;
 ghost use Rattle.parsing.specs.Line.{lineOf};
 ghost use Rattle.printing.specs.Print.{longestLine, question};
-ghost use Rattle.sheet.specs.Sheet.{sheetOf, lineRun};
-use crate::AfterLine;
-use crate::InUse;
+ghost use Rattle.line_run.specs.LineRun.{sheetOf, lineRun};
 use parsing::Line;
 use parsing::Parsed;
+use table::Table;
+
+// The table in use, once a start was accepted; before that the table counts for nothing.
+pub struct InUse {
+    pub started: bool,
+    pub table: Table,
+}
+
+// The position after what a line printed, and the table in use after it.
+pub struct AfterLine {
+    pub next: usize,
+    pub in_use: InUse,
+}
 
 // Makes every word blank.
 fn blank_all(words: &mut [u32])

@@ -1,10 +1,10 @@
--- `sheet::lines::run_read` meets its contract: an arm for each kind of line.
+-- `line_run::run_read` meets its contract: an arm for each kind of line.
 use mathlib.Core.Path.{ap}
 use borrow.Author.Needs.{needs}
-use Rattle.sheet.specs.Sheet.{sheetOf, lineRun}
-use Rattle.sheet.proofs.Running.{shown, asked, not-read}
-use Rattle.sheet.proofs.lines.run_read.Statement.{statement}
-use Rattle.sheet.proofs.lines.run_read.Tie as tie
+use Rattle.line_run.specs.LineRun.{sheetOf, lineRun}
+use Rattle.line_run.proofs.Running.{shown, asked, not-read}
+use Rattle.line_run.proofs.run_read.Statement.{statement}
+use Rattle.line_run.proofs.run_read.Tie as tie
 
 enum-known-line : tie.Need-enum-known-line
 enum-known-line c = search needs

@@ -1,14 +1,14 @@
--- `sheet::lines::run_line` meets its contract: the numbers are read, one or two, or the line gets its question mark.
+-- `line_run::run_line` meets its contract: the numbers are read, one or two, or the line gets its question mark.
 use mathlib.Core.Path.{_≡_, sym, ap, _∙_}
 use mathlib.Core.Logic.{⊎-elim}
 use mathlib.Core.Option.{some}
 use borrow.Author.Needs.{needs}
 use Rattle.parsing.specs.Line.{spaced, lineOf}
 use Rattle.parsing.proofs.Reading.{nothing-read, number-there, inside-line, no-first, no-second, wholeOf, with-second, without-second, more-after, none-after}
-use Rattle.sheet.specs.Sheet.{sheetOf, lineRun}
-use Rattle.sheet.proofs.Running.{shown, asked, not-read}
-use Rattle.sheet.proofs.lines.run_line.Statement.{statement}
-use Rattle.sheet.proofs.lines.run_line.Tie as tie
+use Rattle.line_run.specs.LineRun.{sheetOf, lineRun}
+use Rattle.line_run.proofs.Running.{shown, asked, not-read}
+use Rattle.line_run.proofs.run_line.Statement.{statement}
+use Rattle.line_run.proofs.run_line.Tie as tie
 
 -- the call's start, and the first number
 abbrev S : tie.After-one → tie.Start

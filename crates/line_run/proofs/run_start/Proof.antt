@@ -1,10 +1,10 @@
--- `sheet::lines::run_start` meets its contract.
+-- `line_run::run_start` meets its contract.
 use mathlib.Core.Path.{refl}
 use borrow.Author.Needs.{needs}
-use Rattle.sheet.specs.Sheet.{sheetOf}
-use Rattle.sheet.proofs.Running.{shown, start-refused, start-accepted}
-use Rattle.sheet.proofs.lines.run_start.Statement.{statement}
-use Rattle.sheet.proofs.lines.run_start.Tie as tie
+use Rattle.line_run.specs.LineRun.{sheetOf}
+use Rattle.line_run.proofs.Running.{shown, start-refused, start-accepted}
+use Rattle.line_run.proofs.run_start.Statement.{statement}
+use Rattle.line_run.proofs.run_start.Tie as tie
 
 start-requires : tie.Need-start-requires
 start-requires c κs = search needs
