@@ -3,8 +3,8 @@
 use crate::archive::{Table, BLANK, CONTENT_RANGE};
 use crate::calls::{self, encode, Call, REFUSAL, REPLY_WORDS};
 use crate::placement::{self, write_server, MAX_CAPACITY};
-use ticket_archive::functions as proved;
 use crate::random::Random;
+use ticket_archive::functions as proved;
 
 #[derive(Clone, Copy, PartialEq, Eq)]
 pub enum Side {

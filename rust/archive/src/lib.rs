@@ -49,7 +49,9 @@ const REFUSALS: [Refusal; 10] = [
 impl Refusal {
     /// The refusal of a number; 0 and the numbers that no call gives are none.
     pub fn from_number(number: u32) -> Option<Self> {
-        REFUSALS.into_iter().find(|refusal| *refusal as u32 == number)
+        REFUSALS
+            .into_iter()
+            .find(|refusal| *refusal as u32 == number)
     }
 }
 
