@@ -17,6 +17,7 @@ mod lists;
 mod paper_tests;
 mod placement;
 mod random;
+mod scene;
 mod scenes;
 mod suites;
 
@@ -25,7 +26,7 @@ use std::time::Instant;
 
 use differ::{Difference, Tally};
 use random::Random;
-use scenes::Side;
+use scene::Side;
 use suites::Suite;
 
 /// The command's words, of which some are `--name VALUE`.
@@ -53,7 +54,7 @@ const USAGE: &str = "\
 compare test [--seed N] [--calls N] [--batches N]
 compare time [--only NAME] [--runs N] [--best FILE]
 compare count [--only NAME]
-compare run [--only NAME] [--side proved|rust] [--runs N]";
+compare run [--only NAME] [--side proved|Rust|call|list|batch|calls] [--runs N]";
 
 fn main() -> ExitCode {
     let options = Options {
@@ -76,9 +77,10 @@ fn main() -> ExitCode {
 }
 
 fn run(options: &Options) -> ExitCode {
+    let is_second = |side: &str| scenes::GROUPS.iter().any(|group| group.sides[1] == side);
     let side = match options.text("--side") {
-        Some("rust") => Side::Rust,
-        _ => Side::Proved,
+        Some(side) if is_second(side) => Side::Second,
+        _ => Side::First,
     };
     bench::run_side(options.text("--only"), side, options.number("--runs", 1))
 }
