@@ -3,7 +3,7 @@
 
 use crate::archive::{Table, BLANK};
 use crate::batch::SHORT;
-use crate::calls::{Call, Reply, CALL_WORDS, REPLY_WORDS, TABLE_WORDS};
+use crate::calls::{encode, Call, Reply, Resume, CALL_WORDS, REPLY_WORDS, TABLE_WORDS};
 use crate::differ::{compare_words, Difference, Lent, Tally, UNREAD, UNSTORED};
 use crate::lists::Shape;
 use crate::random::Random;
@@ -95,31 +95,32 @@ fn by_method(archive: &mut Archive, words: &[u32; CALL_WORDS]) -> [u32; REPLY_WO
     reply.words()
 }
 
-/// Lists on fresh and other tables, on blank and damaged words: each call alone, in three ways.
+/// Each way to run the calls of a list one at a time.
+const WAYS: [(&str, Resume); 3] = [
+    ("functions::call", by_functions),
+    ("Archive::call", by_calls),
+    ("the methods of Archive", by_methods),
+];
+
+/// Lists on fresh and other tables, on blank and damaged words: each call alone, in every way.
 pub fn one_by_one(random: &mut Random, tally: &mut Tally) -> Result<(), Difference> {
     let mut shape = Shape::random(random, 8, 6);
+    let mut list = Vec::new();
     if random.one_in(40) {
         shape.servers = random.between(250, 257);
+        list = vec![Call::AddServer { weight: 1 }; shape.servers as usize];
     }
     let table = Table::start(shape.capacity).expect("in range");
     let mut lent = Lent::new(&table, vec![BLANK; shape.medium_len(random)]);
-    if random.one_in(4) {
-        damage(random, &shape, &mut lent.medium);
-    }
-    if random.one_in(4) {
-        lent.table = any_table(random, &shape);
-    }
-    let mut list = vec![];
-    for _ in 6..shape.servers {
-        list.push(Call::AddServer { weight: 1 });
+    match random.below(8) {
+        0 | 1 => damage(random, &shape, &mut lent.medium),
+        2 | 3 => lent.table = any_table(random, &shape),
+        4 => lent.table.push(random.word()),
+        _ => {}
     }
     let length = random.between(1, 100) as usize;
     list.extend(shape.list(random, length));
-    for (name, run) in [
-        ("functions::call", by_functions as crate::calls::Resume),
-        ("Archive::call", by_calls),
-        ("Archive's methods", by_methods),
-    ] {
+    for (name, run) in WAYS {
         lent.run_by(run, &list, tally)
             .map_err(|text| format!("{name} in the place of Rust: {text}"))?;
     }
@@ -181,7 +182,7 @@ fn short_call(random: &mut Random, lent: &Lent, call: Call) -> Result<(), Differ
 
 /// A list on a table of too few words: nothing is run.
 fn short_resume(random: &mut Random, lent: &Lent, list: &[Call]) -> Result<(), Difference> {
-    let calls = crate::calls::encode(list, UNREAD);
+    let calls = encode(list, UNREAD);
     let mut runs = [
         lent.table.clone(),
         lent.medium.clone(),
