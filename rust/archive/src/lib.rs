@@ -1,9 +1,9 @@
 //! A ticket archive on write-once media: the proved library, safe to call from Rust.
 //!
 //! ```
-//! use ticket_archive::{Archive, BLANK};
+//! use ticket_archive::{server_words, Archive, BLANK};
 //!
-//! let mut medium = vec![BLANK; 3 * 100 * 2];
+//! let mut medium = vec![BLANK; 2 * server_words(100)];
 //! let mut archive = Archive::start(100, &mut medium).unwrap();
 //! archive.add_server(60).unwrap();
 //! archive.add_server(40).unwrap();
