@@ -5,7 +5,7 @@
 
 #define CAPACITY 100
 #define SERVERS 3
-#define WORDS (3 * CAPACITY * SERVERS)
+#define WORDS (ARCHIVE_SERVER_WORDS(CAPACITY) * SERVERS)
 
 static uint32_t table[ARCHIVE_TABLE_WORDS], medium[WORDS], reply[ARCHIVE_REPLY_WORDS];
 

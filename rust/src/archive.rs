@@ -216,6 +216,37 @@ impl Table {
         })
     }
 
+    /// The servers that a lookup opens, in the order of opening; none where it is refused before.
+    pub fn opens(&self, medium: &[u32], id: u32) -> Vec<usize> {
+        let mut opened = Vec::new();
+        if !self.is_sound() || id >= CONTENT_RANGE || self.refuse_no_medium(medium).is_err() {
+            return opened;
+        }
+        let servers = 0..self.count as usize;
+        for server in servers.rev().filter(|&k| self.is_readable(k, id)) {
+            opened.push(server);
+            let entries = self.entries(medium, server);
+            if entries.iter().any(|entry| is_live(entry, id)) {
+                break;
+            }
+        }
+        opened
+    }
+
+    /// The table in words for the reader, positions below its count alone.
+    pub fn described(&self) -> String {
+        let count = (self.count as usize).min(MAX_SERVERS);
+        format!(
+            "capacity {}, count {}\nweights {:?}\nused {:?}\nReadP {:?} over {:?}",
+            self.capacity,
+            self.count,
+            &self.weights[..count],
+            &self.used[..count],
+            &self.read_numerators[..count],
+            &self.read_denominators[..count]
+        )
+    }
+
     fn refuse_unsound(&self) -> Result<(), Refusal> {
         refuse_if(!self.is_sound(), Refusal::Unsound)
     }

@@ -6,7 +6,8 @@ use std::hint::black_box;
 use std::process::{Command, ExitCode};
 use std::time::{Duration, Instant};
 
-use crate::scenes::{Scene, Side, SCENES};
+use crate::scene::{Scene, Side};
+use crate::scenes::{Entry, Group, GROUPS};
 
 // A tight loop can take twice the time where it lies across two cache lines. Builds that differ
 // in this padding move the code of both sides, so that neither keeps a bad place.
@@ -23,13 +24,15 @@ pub fn measured_run(scene: &mut Scene, side: Side) -> usize {
     black_box(scene.run(black_box(side)))
 }
 
-fn is_asked(only: Option<&str>, name: &str) -> bool {
-    only.is_none_or(|only| only == name)
+/// The scenes of a group that are asked for.
+fn asked<'a>(group: &'a Group, only: Option<&'a str>) -> impl Iterator<Item = &'a Entry> {
+    let is_asked = move |entry: &&Entry| only.is_none_or(|only| only == entry.0);
+    group.scenes.iter().filter(is_asked)
 }
 
 /// Runs one side some times, with nothing compared or timed: what callgrind looks at.
 pub fn run_side(only: Option<&str>, side: Side, runs: u64) -> ExitCode {
-    for (_, _, make) in SCENES.iter().filter(|entry| is_asked(only, entry.0)) {
+    for (_, _, make) in GROUPS.iter().flat_map(|group| asked(group, only)) {
         let mut scene = make();
         for _ in 0..runs {
             scene.clear();
@@ -42,11 +45,11 @@ pub fn run_side(only: Option<&str>, side: Side, runs: u64) -> ExitCode {
 /// Whether both sides leave the same; the first run of each, before anything is timed.
 fn agree(scene: &mut Scene) -> bool {
     scene.clear();
-    let ours = measured_run(scene, Side::Proved);
+    let first = measured_run(scene, Side::First);
     let left = scene.left();
     scene.clear();
-    let theirs = measured_run(scene, Side::Rust);
-    ours == scene.calls && ours == theirs && left == scene.left()
+    let second = measured_run(scene, Side::Second);
+    first == scene.calls && first == second && left == scene.left()
 }
 
 fn timed(scene: &mut Scene, side: Side) -> Duration {
@@ -59,31 +62,31 @@ fn timed(scene: &mut Scene, side: Side) -> Duration {
 /// Nanoseconds for a call, by side.
 #[derive(Clone, Copy)]
 struct Times {
-    proved: f64,
-    rust: f64,
+    first: f64,
+    second: f64,
 }
 
 impl Times {
     fn better(self, other: Times) -> Times {
         Times {
-            proved: self.proved.min(other.proved),
-            rust: self.rust.min(other.rust),
+            first: self.first.min(other.first),
+            second: self.second.min(other.second),
         }
     }
 }
 
 /// The best of some runs of each side, taken in turns.
 fn best(scene: &mut Scene, runs: u64) -> Times {
-    let mut proved = Duration::MAX;
-    let mut rust = Duration::MAX;
+    let mut first = Duration::MAX;
+    let mut second = Duration::MAX;
     for _ in 0..runs {
-        proved = proved.min(timed(scene, Side::Proved));
-        rust = rust.min(timed(scene, Side::Rust));
+        first = first.min(timed(scene, Side::First));
+        second = second.min(timed(scene, Side::Second));
     }
     let per_call = |time: Duration| time.as_nanos() as f64 / scene.calls as f64;
     Times {
-        proved: per_call(proved),
-        rust: per_call(rust),
+        first: per_call(first),
+        second: per_call(second),
     }
 }
 
@@ -122,7 +125,7 @@ impl<'a> Best<'a> {
             return;
         };
         let line =
-            |(name, times): &(String, Times)| format!("{name} {} {}\n", times.proved, times.rust);
+            |(name, times): &(String, Times)| format!("{name} {} {}\n", times.first, times.second);
         let text: String = self.lines.iter().map(line).collect();
         fs::write(file, text).expect("the file can be written");
     }
@@ -131,33 +134,36 @@ impl<'a> Best<'a> {
 fn parse(line: &str) -> Option<(String, Times)> {
     let mut words = line.split(' ');
     let name = words.next()?.into();
-    let proved = words.next()?.parse().ok()?;
-    let rust = words.next()?.parse().ok()?;
-    Some((name, Times { proved, rust }))
+    let first = words.next()?.parse().ok()?;
+    let second = words.next()?.parse().ok()?;
+    Some((name, Times { first, second }))
 }
 
 const TIME_HEAD: &str = "\
 Nanoseconds for a call: the best run of each side, the sides taken in turns. Before each run the
-medium and the table are put back and the replies zeroed, untimed.
+medium and the table are put back and the replies zeroed, untimed.";
 
-| name       | what                                 | calls  | refused | proved  | Rust    | ratio |
-|------------|--------------------------------------|--------|---------|---------|---------|-------|";
-
-/// Prints a line for each scene: nanoseconds for a call on both sides and the ratio. With a file,
-/// the best of this build and those that wrote the file before.
+/// Prints a table for each group and a line for each scene: nanoseconds for a call on both sides
+/// and the ratio. With a file, the best of this build and those that wrote the file before.
 pub fn time_all(only: Option<&str>, runs: u64, file: Option<&str>) -> ExitCode {
     let mut kept = Best::read(file);
     println!("{TIME_HEAD}");
-    for (name, what, make) in SCENES.iter().filter(|entry| is_asked(only, entry.0)) {
-        let mut scene = make();
-        if !agree(&mut scene) {
-            println!("{name}: the sides differ");
-            return ExitCode::FAILURE;
+    for group in &GROUPS {
+        let [one, other] = group.sides;
+        println!();
+        println!("| name           | what                                  | calls  | refused | {one:<7} | {other:<7} | ratio |");
+        println!("|----------------|---------------------------------------|--------|---------|---------|---------|-------|");
+        for (name, what, make) in asked(group, only) {
+            let mut scene = make();
+            if !agree(&mut scene) {
+                println!("{name}: the sides differ");
+                return ExitCode::FAILURE;
+            }
+            let (calls, refused) = (scene.calls, scene.refused());
+            let Times { first, second } = kept.with(name, best(&mut scene, runs));
+            let ratio = first / second;
+            println!("| {name:<14} | {what:<37} | {calls:>6} | {refused:>7} | {first:>7.1} | {second:>7.1} | {ratio:>5.2} |");
         }
-        let (calls, refused) = (scene.calls, scene.refused());
-        let Times { proved, rust } = kept.with(name, best(&mut scene, runs));
-        let ratio = proved / rust;
-        println!("| {name:<10} | {what:<36} | {calls:>6} | {refused:>7} | {proved:>7.1} | {rust:>7.1} | {ratio:>5.2} |");
     }
     kept.write();
     ExitCode::SUCCESS
@@ -178,25 +184,26 @@ fn instructions(name: &str, side: &str) -> Option<u64> {
     count.split_whitespace().next()?.parse().ok()
 }
 
-const COUNT_HEAD: &str = "\
-Instructions for a call, by callgrind, the clearing of the buffers not counted.
-
-| name       | proved   | Rust     | ratio |
-|------------|----------|----------|-------|";
-
-/// Prints a line for each scene: instructions for a call on both sides and the ratio.
+/// Prints a table for each group and a line for each scene: instructions for a call on both sides
+/// and the ratio.
 pub fn count_all(only: Option<&str>) -> ExitCode {
-    println!("{COUNT_HEAD}");
-    for (name, _, make) in SCENES.iter().filter(|entry| is_asked(only, entry.0)) {
-        let (Some(proved), Some(rust)) = (instructions(name, "proved"), instructions(name, "rust"))
-        else {
-            println!("valgrind is not there: not counted");
-            return ExitCode::SUCCESS;
-        };
-        let calls = make().calls as u64;
-        let ratio = proved as f64 / rust as f64;
-        let (proved, rust) = (proved / calls, rust / calls);
-        println!("| {name:<10} | {proved:>8} | {rust:>8} | {ratio:>5.2} |");
+    println!("Instructions for a call, by callgrind, the clearing of the buffers not counted.");
+    for group in &GROUPS {
+        let [one, other] = group.sides;
+        println!();
+        println!("| name           | {one:<8} | {other:<8} | ratio |");
+        println!("|----------------|----------|----------|-------|");
+        for (name, _, make) in asked(group, only) {
+            let (Some(first), Some(second)) = (instructions(name, one), instructions(name, other))
+            else {
+                println!("valgrind is not there: not counted");
+                return ExitCode::SUCCESS;
+            };
+            let calls = make().calls as u64;
+            let ratio = first as f64 / second as f64;
+            let (first, second) = (first / calls, second / calls);
+            println!("| {name:<14} | {first:>8} | {second:>8} | {ratio:>5.2} |");
+        }
     }
     ExitCode::SUCCESS
 }

@@ -122,6 +122,22 @@ impl Reply {
         }
     }
 
+    /// The reply that a result of the safe archive's lookup stands for.
+    pub fn from_typed(result: Result<ticket_archive::Found, ticket_archive::Missed>) -> Self {
+        match result {
+            Ok(found) => Reply {
+                value: found.value,
+                opened: found.opened,
+                ..Reply::default()
+            },
+            Err(missed) => Reply {
+                refusal: missed.refusal as u32,
+                opened: missed.opened,
+                ..Reply::default()
+            },
+        }
+    }
+
     pub fn words(self) -> [u32; REPLY_WORDS] {
         let mut words = [0; REPLY_WORDS];
         words[REFUSAL] = self.refusal;
@@ -205,7 +221,7 @@ impl Table {
         result.unwrap_or_else(Reply::refused)
     }
 
-    fn run_lookup(&self, medium: &[u32], id: u32) -> Reply {
+    pub fn run_lookup(&self, medium: &[u32], id: u32) -> Reply {
         match self.lookup(medium, id) {
             Ok(found) => Reply {
                 value: found.value,

@@ -21,6 +21,16 @@ pub struct Tally {
     pub refusals: [u64; 11],
     pub no_calls: u64,
     pub picks: u64,
+    /// Calls run one at a time, and the runs too short and the starts among them.
+    pub single_calls: u64,
+    pub short_runs: u64,
+    pub starts: u64,
+    pub batches: u64,
+    /// Batches refused as a whole, by number.
+    pub batches_refused: [u64; 3],
+    /// The ids of the accepted batches, and how often each refusal was an id's; 0 is acceptance.
+    pub batch_ids: u64,
+    pub batch_refusals: [u64; 11],
 }
 
 impl Tally {
@@ -38,10 +48,10 @@ impl Tally {
 }
 
 /// Buffers hold this before a run, so that a word which should not be stored shows.
-const UNSTORED: u32 = 0x5555_5555;
+pub const UNSTORED: u32 = 0x5555_5555;
 
 /// Words that a call should not read hold this.
-const UNREAD: u32 = 0x3333_3333;
+pub const UNREAD: u32 = 0x3333_3333;
 
 /// What one side left.
 struct Outcome {
@@ -108,7 +118,7 @@ fn first_difference(proved: &[u32], rust: &[u32]) -> Option<usize> {
     (0..proved.len()).find(|&at| proved[at] != rust[at])
 }
 
-fn compare_words(what: &str, proved: &[u32], rust: &[u32]) -> Result<(), Difference> {
+pub fn compare_words(what: &str, proved: &[u32], rust: &[u32]) -> Result<(), Difference> {
     match first_difference(proved, rust) {
         None => Ok(()),
         Some(at) => Err(format!(
@@ -263,6 +273,28 @@ impl Lent {
         self.table = proved.table;
         self.medium = proved.medium;
         Ok(())
+    }
+}
+
+impl Lent {
+    /// Runs a list by the proved `resume` and its calls in another way on the same words, and
+    /// compares every word; what is lent is kept.
+    pub fn run_by(
+        &self,
+        other: calls::Resume,
+        list: &[Call],
+        tally: &mut Tally,
+    ) -> Result<(), Difference> {
+        let encoded = Encoded::new(list);
+        let whole = encoded.resume(proved::resume, &self.table, &self.medium);
+        let single = encoded.resume(other, &self.table, &self.medium);
+        tally.single_calls += single.ran as u64;
+        compare_outcomes(&whole, &single)
+            .and_then(|()| compare_words("whole table", &whole.table, &single.table))
+            .map_err(|text| {
+                let capacity = self.table.first().copied().unwrap_or(0);
+                described(text, capacity, &self.medium, list)
+            })
     }
 }
 

@@ -2,18 +2,22 @@
 //! instruction counts.
 
 mod archive;
+mod batch;
+mod batch_differ;
+mod batch_suites;
 mod bench;
 mod calls;
 mod differ;
 mod exhaustive;
 mod fractions;
+mod interface;
 mod ledger;
 mod lists;
 #[cfg(test)]
 mod paper_tests;
 mod placement;
-
 mod random;
+mod scene;
 mod scenes;
 mod suites;
 
@@ -22,7 +26,8 @@ use std::time::Instant;
 
 use differ::{Difference, Tally};
 use random::Random;
-use scenes::Side;
+use scene::Side;
+use suites::Suite;
 
 /// The command's words, of which some are `--name VALUE`.
 struct Options {
@@ -46,10 +51,10 @@ impl Options {
 }
 
 const USAGE: &str = "\
-compare test [--seed N] [--calls N]
+compare test [--seed N] [--calls N] [--batches N]
 compare time [--only NAME] [--runs N] [--best FILE]
 compare count [--only NAME]
-compare run [--only NAME] [--side proved|rust] [--runs N]";
+compare run [--only NAME] [--side proved|Rust|call|list|batch|calls] [--runs N]";
 
 fn main() -> ExitCode {
     let options = Options {
@@ -72,9 +77,10 @@ fn main() -> ExitCode {
 }
 
 fn run(options: &Options) -> ExitCode {
+    let is_second = |side: &str| scenes::GROUPS.iter().any(|group| group.sides[1] == side);
     let side = match options.text("--side") {
-        Some("rust") => Side::Rust,
-        _ => Side::Proved,
+        Some(side) if is_second(side) => Side::Second,
+        _ => Side::First,
     };
     bench::run_side(options.text("--only"), side, options.number("--runs", 1))
 }
@@ -82,33 +88,73 @@ fn run(options: &Options) -> ExitCode {
 fn test(options: &Options) -> ExitCode {
     let seed = options.number("--seed", 1);
     let calls = options.number("--calls", 4_000_000);
-    println!("seed {seed}, at least {calls} calls and the exhaustive lists");
+    let batches = options.number("--batches", 120_000);
+    println!("seed {seed}, at least {calls} calls and {batches} batches, and the exhaustive lists");
     let began = Instant::now();
     let mut tally = Tally::default();
-    match run_suites(seed, calls, &mut tally) {
+    let result = run_suites(seed, calls, &mut tally)
+        .and_then(|()| run_interface(seed, calls, &mut tally))
+        .and_then(|()| run_batches(seed, batches, &mut tally));
+    match result {
         Ok(()) => {
             report(&tally);
             println!("no difference in {:.1} s", began.elapsed().as_secs_f64());
             ExitCode::SUCCESS
         }
         Err(difference) => {
-            println!("DIFFERENCE (seed {seed}, calls {calls})\n{difference}");
+            println!("DIFFERENCE (seed {seed}, calls {calls}, batches {batches})\n{difference}");
             ExitCode::FAILURE
         }
     }
 }
 
+/// Runs a suite until it has met so many of what is counted; answers how many it met.
+fn run_suite(
+    name: &str,
+    suite: Suite,
+    seed: u64,
+    asked: u64,
+    tally: &mut Tally,
+    counted: fn(&Tally) -> u64,
+) -> Result<u64, Difference> {
+    let before = counted(tally);
+    let mut round = 0;
+    while counted(tally) - before < asked {
+        let list_seed = seed.wrapping_mul(1 << 32).wrapping_add(round);
+        suite(&mut Random::new(list_seed), tally)
+            .map_err(|text| format!("{name}, list seed {list_seed}: {text}"))?;
+        round += 1;
+    }
+    Ok(counted(tally) - before)
+}
+
+fn run_interface(seed: u64, calls: u64, tally: &mut Tally) -> Result<(), Difference> {
+    let (name, asked) = ("one call at a time", calls / 5);
+    let one_by_one = interface::one_by_one;
+    let ran = run_suite(name, one_by_one, seed, asked, tally, |t| t.single_calls)?;
+    println!("{name}: {ran} calls");
+    let (name, asked) = ("too short runs", calls / 100);
+    let ran = run_suite(name, interface::short_runs, seed, asked, tally, |t| {
+        t.short_runs
+    })?;
+    println!("{name}: {ran}");
+    Ok(())
+}
+
+fn run_batches(seed: u64, batches: u64, tally: &mut Tally) -> Result<(), Difference> {
+    for (name, suite, share) in batch_suites::SUITES {
+        let ran = run_suite(name, suite, seed, batches * share / 100, tally, |t| {
+            t.batches
+        })?;
+        println!("{name}: {ran}");
+    }
+    Ok(())
+}
+
 fn run_suites(seed: u64, calls: u64, tally: &mut Tally) -> Result<(), Difference> {
     for (name, suite, share) in suites::SUITES {
-        let before = tally.calls;
-        let mut round = 0;
-        while tally.calls - before < calls * share / 100 {
-            let list_seed = seed.wrapping_mul(1 << 32).wrapping_add(round);
-            suite(&mut Random::new(list_seed), tally)
-                .map_err(|text| format!("{name}, list seed {list_seed}: {text}"))?;
-            round += 1;
-        }
-        println!("{name}: {} calls", tally.calls - before);
+        let ran = run_suite(name, suite, seed, calls * share / 100, tally, |t| t.calls)?;
+        println!("{name}: {ran} calls");
     }
     for (servers, depth) in [(2, 5), (3, 4)] {
         let before = tally.calls;
@@ -127,4 +173,23 @@ fn report(tally: &Tally) {
     }
     println!("no call: {}", tally.no_calls);
     println!("picks: {}", tally.picks);
+    println!("calls one at a time: {}", tally.single_calls);
+    println!(
+        "too short runs: {}, starts: {}",
+        tally.short_runs, tally.starts
+    );
+    let [_, by_1, by_2] = tally.batches_refused;
+    println!(
+        "batches: {}, refused by 1: {by_1}, by 2: {by_2}",
+        tally.batches
+    );
+    println!("ids of batches: {}", tally.batch_ids);
+    for (number, &met) in tally
+        .batch_refusals
+        .iter()
+        .enumerate()
+        .filter(|met| *met.1 > 0)
+    {
+        println!("ids of batches answered {number}: {met}");
+    }
 }

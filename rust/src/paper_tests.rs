@@ -83,6 +83,26 @@ fn example_on_the_ledger() {
 }
 
 #[test]
+fn batch() {
+    let id = 626_627_286;
+    let mut table = Table::start(4).expect("in range");
+    let mut medium = vec![BLANK; 36];
+    for (call, _) in example().into_iter().take(4) {
+        table.run(&mut medium, call);
+    }
+    assert_eq!(table.opens(&medium, id), [2]);
+    let answer = table.lookup_batch(&medium, &[id, 1 << 30, id]);
+    let batch = answer.expect("three ids");
+    assert_eq!(batch.order, [1, 0, 2]);
+    assert_eq!(batch.mounts, 1);
+    assert_eq!(batch.replies[1], Reply::refused(Refusal::OutOfRange));
+    assert_eq!((batch.replies[2].value, batch.replies[2].opened), (500, 1));
+    let refusal = |table: &Table| table.lookup_batch(&medium, &[id; 257]).err();
+    assert_eq!(refusal(&table), Some(Refusal::OutOfRange));
+    assert_eq!(refusal(&Table::ZERO), Some(Refusal::Unsound));
+}
+
+#[test]
 fn edges() {
     assert_eq!(Table::start(0), Err(Refusal::OutOfRange));
     assert_eq!(Table::start(65_537), Err(Refusal::OutOfRange));

@@ -1,127 +1,36 @@
-//! What is measured: inputs that both sides run alike.
+//! What is measured: inputs that two sides run alike.
 
 use crate::archive::{Table, BLANK, CONTENT_RANGE};
-use crate::calls::{self, encode, Call, REFUSAL, REPLY_WORDS};
-use crate::placement::{self, write_server, MAX_CAPACITY};
-use ticket_archive::functions as proved;
+use crate::calls::Call;
+use crate::placement::{write_server, MAX_CAPACITY};
 use crate::random::Random;
+use crate::scene::Scene;
 
-#[derive(Clone, Copy, PartialEq, Eq)]
-pub enum Side {
-    Proved,
-    Rust,
+/// Scenes whose sides are the same two.
+pub struct Group {
+    pub sides: [&'static str; 2],
+    pub scenes: &'static [Entry],
 }
 
-enum Work {
-    /// The write server of each id.
-    Picks { weights: Vec<u32>, ids: Vec<u32> },
-    /// A list from a start on blank words.
-    Replay { capacity: u32, calls: Vec<u32> },
-    /// A list on a table and a medium that are there.
-    Resume { table: Vec<u32>, calls: Vec<u32> },
-}
-
-/// An input, and the buffers that a run changes.
-pub struct Scene {
-    work: Work,
-    image: Vec<u32>,
-    table: Vec<u32>,
-    medium: Vec<u32>,
-    answers: Vec<u32>,
-    /// How many picks or calls one run makes.
-    pub calls: usize,
-}
-
-impl Scene {
-    fn picks(weights: Vec<u32>, ids: Vec<u32>) -> Self {
-        let calls = ids.len();
-        Scene::new(Work::Picks { weights, ids }, Vec::new(), calls, calls)
-    }
-
-    fn replay(capacity: u32, medium_len: usize, list: &[Call]) -> Self {
-        let work = Work::Replay {
-            capacity,
-            calls: encode(list, 0),
-        };
-        let answers = list.len() * REPLY_WORDS;
-        Scene::new(work, vec![BLANK; medium_len], answers, list.len())
-    }
-
-    fn resume(table: &Table, medium: Vec<u32>, list: &[Call]) -> Self {
-        let work = Work::Resume {
-            table: table.words().to_vec(),
-            calls: encode(list, 0),
-        };
-        Scene::new(work, medium, list.len() * REPLY_WORDS, list.len())
-    }
-
-    fn new(work: Work, image: Vec<u32>, answers: usize, calls: usize) -> Self {
-        let table = match &work {
-            Work::Resume { table, .. } => table.clone(),
-            _ => Vec::new(),
-        };
-        Scene {
-            work,
-            medium: image.clone(),
-            image,
-            table,
-            answers: vec![0; answers],
-            calls,
-        }
-    }
-
-    /// Puts every buffer back to what it held before the first run.
-    pub fn clear(&mut self) {
-        self.medium.copy_from_slice(&self.image);
-        self.answers.fill(0);
-        if let Work::Resume { table, .. } = &self.work {
-            self.table.copy_from_slice(table);
-        }
-    }
-
-    pub fn run(&mut self, side: Side) -> usize {
-        let (medium, answers) = (&mut self.medium, &mut self.answers);
-        match (&self.work, side) {
-            (Work::Picks { weights, ids }, Side::Proved) => proved::picks(weights, ids, answers),
-            (Work::Picks { weights, ids }, Side::Rust) => placement::picks(weights, ids, answers),
-            (Work::Replay { capacity, calls }, Side::Proved) => {
-                proved::replay(*capacity, calls, medium, answers)
-            }
-            (Work::Replay { capacity, calls }, Side::Rust) => {
-                calls::replay(*capacity, calls, medium, answers)
-            }
-            (Work::Resume { calls, .. }, Side::Proved) => {
-                proved::resume(&mut self.table, calls, medium, answers)
-            }
-            (Work::Resume { calls, .. }, Side::Rust) => {
-                calls::resume(&mut self.table, calls, medium, answers)
-            }
-        }
-    }
-
-    /// Everything that a run leaves.
-    pub fn left(&self) -> [Vec<u32>; 3] {
-        [
-            self.answers.clone(),
-            self.table.clone(),
-            self.medium.clone(),
-        ]
-    }
-
-    /// How many calls were refused in the last run.
-    pub fn refused(&self) -> usize {
-        if matches!(self.work, Work::Picks { .. }) {
-            return 0;
-        }
-        let replies = self.answers.chunks_exact(REPLY_WORDS);
-        replies.filter(|reply| reply[REFUSAL] != 0).count()
-    }
-}
+pub const GROUPS: [Group; 3] = [
+    Group {
+        sides: ["proved", "Rust"],
+        scenes: &AGAINST_RUST,
+    },
+    Group {
+        sides: ["call", "list"],
+        scenes: &CALLS,
+    },
+    Group {
+        sides: ["batch", "calls"],
+        scenes: &BATCHES,
+    },
+];
 
 /// Name, what it measures, and how it is made.
 pub type Entry = (&'static str, &'static str, fn() -> Scene);
 
-pub const SCENES: [Entry; 13] = [
+const AGAINST_RUST: [Entry; 13] = [
     ("pick-256", "write decision over 256 servers", pick_256),
     ("hit-1", "lookup that finds, 1 server", || lookups(1, true)),
     ("hit-16", "lookup that finds, 16 servers", || {
@@ -155,6 +64,67 @@ pub const SCENES: [Entry; 13] = [
     ("mixed-4", "100,000 calls, 4 servers of 64", || mixed(4, 64)),
 ];
 
+/// Calls lent one at a time, against the same in one list.
+const CALLS: [Entry; 13] = [
+    ("call-few-1", "lookup, 1 server of 32", || found(1, FEW)),
+    ("call-few-16", "lookup, 16 servers of 32", || found(16, FEW)),
+    ("call-few-256", "lookup, 256 servers of 32", || {
+        found(256, FEW)
+    }),
+    ("call-hit-1", "lookup, 1 server of 4,096", || {
+        found(1, ENTRIES)
+    }),
+    ("call-hit-16", "lookup, 16 servers of 4,096", || {
+        found(16, ENTRIES)
+    }),
+    ("call-hit-256", "lookup, 256 servers of 4,096", || {
+        found(256, ENTRIES)
+    }),
+    ("call-new-1", "write of a new id, 1 server", || {
+        new_writes(1)
+    }),
+    ("call-new-16", "write of a new id, 16 servers", || {
+        new_writes(16)
+    }),
+    ("call-new-256", "write of a new id, 256 servers", || {
+        new_writes(256)
+    }),
+    ("call-write-1", "write that invalidates 4, 1 server", || {
+        replacing(1)
+    }),
+    (
+        "call-write-16",
+        "write that invalidates 4, 16 servers",
+        || replacing(16),
+    ),
+    (
+        "call-write-256",
+        "write that invalidates 4, 256 servers",
+        || replacing(256),
+    ),
+    ("call-weight-16", "reweight, 16 servers", || reweights(16)),
+];
+
+/// Batches of 256 ids, against lookups lent one at a time.
+const BATCHES: [Entry; 6] = [
+    ("batch-few-1", "batch, 1 server of 32", || batches(1, FEW)),
+    ("batch-few-16", "batch, 16 servers of 32", || {
+        batches(16, FEW)
+    }),
+    ("batch-few-256", "batch, 256 servers of 32", || {
+        batches(256, FEW)
+    }),
+    ("batch-hit-1", "batch, 1 server of 4,096", || {
+        batches(1, ENTRIES)
+    }),
+    ("batch-hit-16", "batch, 16 servers of 4,096", || {
+        batches(16, ENTRIES)
+    }),
+    ("batch-hit-256", "batch, 256 servers of 4,096", || {
+        batches(256, ENTRIES)
+    }),
+];
+
 fn pick_256() -> Scene {
     let mut random = Random::new(1);
     let weights = (0..256).map(|_| random.between(1, MAX_CAPACITY)).collect();
@@ -164,13 +134,16 @@ fn pick_256() -> Scene {
 
 const ENTRIES: u32 = 4_096;
 
+/// So few entries that a lookup is soon at its end.
+const FEW: u32 = 32;
+
 /// Servers of equal weight whose first `used` entries hold ids that no call names.
-fn filled(random: &mut Random, servers: usize, used: u32) -> (Table, Vec<u32>) {
-    let words = 3 * ENTRIES as usize;
+fn filled(random: &mut Random, servers: usize, entries: u32, used: u32) -> (Table, Vec<u32>) {
+    let words = 3 * entries as usize;
     let mut medium = vec![BLANK; words * servers];
-    let mut table = Table::start(ENTRIES).expect("in range");
+    let mut table = Table::start(entries).expect("in range");
     for server in 0..servers {
-        table.add_server(&medium, ENTRIES).expect("blank");
+        table.add_server(&medium, entries).expect("blank");
         table.used[server] = used;
     }
     for server in medium.chunks_exact_mut(words) {
@@ -203,7 +176,7 @@ fn place(random: &mut Random, table: &Table, medium: &mut [u32], id: u32) {
 /// Lookups on full servers; the ids that are found stand anywhere on their write server.
 fn lookups(servers: usize, hit: bool) -> Scene {
     let mut random = Random::new(servers as u64);
-    let (table, mut medium) = filled(&mut random, servers, ENTRIES);
+    let (table, mut medium) = filled(&mut random, servers, ENTRIES, ENTRIES);
     let list: Vec<Call> = (0..1_000)
         .map(|_| {
             let id = fresh_id(&mut random, if hit { 1 } else { 2 });
@@ -216,10 +189,36 @@ fn lookups(servers: usize, hit: bool) -> Scene {
     Scene::resume(&table, medium, &list)
 }
 
-/// Writes of ids that have four live entries each on their write server.
-fn writes(servers: usize) -> Scene {
+/// Full servers, and ids that stand anywhere on their write server, each at most once.
+fn placed(servers: usize, entries: u32) -> (Table, Vec<u32>, Vec<u32>) {
     let mut random = Random::new(servers as u64);
-    let (table, mut medium) = filled(&mut random, servers, ENTRIES / 2);
+    let (table, mut medium) = filled(&mut random, servers, entries, entries);
+    let some = (entries * servers as u32 / 4).min(1_024);
+    let ids: Vec<u32> = (0..some).map(|_| fresh_id(&mut random, 1)).collect();
+    for &id in &ids {
+        place(&mut random, &table, &mut medium, id);
+    }
+    let all = ids.iter().cycle().take(1_024).copied().collect();
+    (table, medium, all)
+}
+
+/// Lookups that find, each alone.
+fn found(servers: usize, entries: u32) -> Scene {
+    let (table, medium, ids) = placed(servers, entries);
+    let list: Vec<Call> = ids.into_iter().map(|id| Call::Lookup { id }).collect();
+    Scene::calls(&table, medium, &list)
+}
+
+/// The same in batches.
+fn batches(servers: usize, entries: u32) -> Scene {
+    let (table, medium, ids) = placed(servers, entries);
+    Scene::batches(&table, medium, &ids)
+}
+
+/// Writes of ids that have four live entries each on their write server.
+fn rewrites(servers: usize) -> (Table, Vec<u32>, Vec<Call>) {
+    let mut random = Random::new(servers as u64);
+    let (table, mut medium) = filled(&mut random, servers, ENTRIES, ENTRIES / 2);
     let list: Vec<Call> = (0..500)
         .map(|_| {
             let id = fresh_id(&mut random, 1);
@@ -230,7 +229,44 @@ fn writes(servers: usize) -> Scene {
             Call::Write { id, value }
         })
         .collect();
+    (table, medium, list)
+}
+
+fn writes(servers: usize) -> Scene {
+    let (table, medium, list) = rewrites(servers);
     Scene::resume(&table, medium, &list)
+}
+
+/// The same, each alone.
+fn replacing(servers: usize) -> Scene {
+    let (table, medium, list) = rewrites(servers);
+    Scene::calls(&table, medium, &list)
+}
+
+/// Writes of new ids to blank servers, each alone.
+fn new_writes(servers: usize) -> Scene {
+    let mut random = Random::new(servers as u64);
+    let (table, medium) = filled(&mut random, servers, ENTRIES, 0);
+    let list: Vec<Call> = (0..500)
+        .map(|_| Call::Write {
+            id: random.below(CONTENT_RANGE),
+            value: random.below(CONTENT_RANGE),
+        })
+        .collect();
+    Scene::calls(&table, medium, &list)
+}
+
+/// Weights set anew, each alone.
+fn reweights(servers: usize) -> Scene {
+    let mut random = Random::new(servers as u64);
+    let (table, medium) = filled(&mut random, servers, ENTRIES, 0);
+    let list: Vec<Call> = (0..1_000)
+        .map(|_| Call::Reweight {
+            server: random.below(servers as u32),
+            weight: random.below(ENTRIES + 1),
+        })
+        .collect();
+    Scene::calls(&table, medium, &list)
 }
 
 fn add_server() -> Scene {

@@ -9,7 +9,7 @@ use crate::placement::{MAX_CAPACITY, MAX_SERVERS};
 use crate::random::Random;
 
 /// One list, or a few that belong together, from a generator of its own.
-type Suite = fn(&mut Random, &mut Tally) -> Result<(), Difference>;
+pub type Suite = fn(&mut Random, &mut Tally) -> Result<(), Difference>;
 
 /// Each suite with its share of the calls asked for, in percent.
 pub const SUITES: [(&str, Suite, u64); 7] = [
@@ -46,7 +46,7 @@ fn any_word(random: &mut Random, shape: &Shape) -> u32 {
     }
 }
 
-fn damage(random: &mut Random, shape: &Shape, medium: &mut [u32]) {
+pub fn damage(random: &mut Random, shape: &Shape, medium: &mut [u32]) {
     for _ in 0..random.between(1, 3) {
         let at = random.below(medium.len() as u32) as usize;
         medium[at] = any_word(random, shape);
@@ -112,7 +112,7 @@ fn table_number(random: &mut Random, shape: &Shape) -> u32 {
 }
 
 /// Alters one word among those that are read, or the count, or the capacity.
-fn alter(random: &mut Random, shape: &Shape, table: &mut [u32]) {
+pub fn alter(random: &mut Random, shape: &Shape, table: &mut [u32]) {
     let number = table_number(random, shape);
     let count = table[1].clamp(1, MAX_SERVERS as u32);
     let at = match random.below(8) {
@@ -127,7 +127,7 @@ fn alter(random: &mut Random, shape: &Shape, table: &mut [u32]) {
 }
 
 /// Says that a server used another number of entries than it did.
-fn raise_used(random: &mut Random, table: &mut [u32]) {
+pub fn raise_used(random: &mut Random, table: &mut [u32]) {
     let capacity = table[0].min(MAX_CAPACITY);
     let count = table[1].clamp(1, MAX_SERVERS as u32);
     let server = random.below(count) as usize;
@@ -135,7 +135,7 @@ fn raise_used(random: &mut Random, table: &mut [u32]) {
 }
 
 /// A table of any words, of which some are sound: weights and used in range, ReadP near 1.
-fn any_table(random: &mut Random, shape: &Shape) -> Vec<u32> {
+pub fn any_table(random: &mut Random, shape: &Shape) -> Vec<u32> {
     let mut table = vec![0; TABLE_WORDS];
     table[0] = shape.capacity;
     table[1] = random.below(shape.servers + 1);
@@ -170,7 +170,7 @@ fn many_servers(random: &mut Random, tally: &mut Tally) -> Result<(), Difference
     run_blank(shape.capacity, medium_len, &list, tally)
 }
 
-const EDGES: [u32; 14] = [
+pub const EDGES: [u32; 14] = [
     0,
     1,
     2,

@@ -1,9 +1,9 @@
 //! A ticket archive on write-once media: the proved library, safe to call from Rust.
 //!
 //! ```
-//! use ticket_archive::{Archive, BLANK};
+//! use ticket_archive::{server_words, Archive, BLANK};
 //!
-//! let mut medium = vec![BLANK; 3 * 100 * 2];
+//! let mut medium = vec![BLANK; 2 * server_words(100)];
 //! let mut archive = Archive::start(100, &mut medium).unwrap();
 //! archive.add_server(60).unwrap();
 //! archive.add_server(40).unwrap();
@@ -49,7 +49,9 @@ const REFUSALS: [Refusal; 10] = [
 impl Refusal {
     /// The refusal of a number; 0 and the numbers that no call gives are none.
     pub fn from_number(number: u32) -> Option<Self> {
-        REFUSALS.into_iter().find(|refusal| *refusal as u32 == number)
+        REFUSALS
+            .into_iter()
+            .find(|refusal| *refusal as u32 == number)
     }
 }
 

@@ -1,5 +1,8 @@
 //! Calls and replies as words, as include/archive.h has them.
 
+/// The version of the interface that this crate is written for; `functions::abi` answers the library's own.
+pub const ABI: u32 = 1;
+
 /// How many words a table has.
 pub const TABLE_WORDS: usize = 1026;
 
@@ -11,6 +14,26 @@ pub const REPLY_WORDS: usize = 8;
 
 /// A word of the medium that was never written.
 pub const BLANK: u32 = u32::MAX;
+
+/// How many words of the medium a server has.
+pub const fn server_words(capacity: u32) -> usize {
+    3 * capacity as usize
+}
+
+/// The most servers.
+pub const MAX_SERVERS: usize = 256;
+
+/// The most entries of a server.
+pub const MAX_CAPACITY: u32 = 65_536;
+
+/// The most ids of a batch.
+pub const MAX_IDS: usize = 256;
+
+/// Ids and values are below this.
+pub const CONTENT_RANGE: u32 = 1 << 30;
+
+/// The refusal number of a call that was carried out.
+pub const ACCEPTED: u32 = 0;
 
 /// The answer to a run that is too short.
 pub const SHORT: u32 = u32::MAX - 1;

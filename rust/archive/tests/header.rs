@@ -1,0 +1,95 @@
+//! The numbers of include/archive.h, those of this crate and those of the library are the same.
+
+use ticket_archive::*;
+
+const HEADER: &str = include_str!("../../../include/archive.h");
+
+/// A number as C has it: in base ten or sixteen, with or without the suffix of unsigned ones.
+fn number(text: &str) -> u64 {
+    let digits = text.trim_end_matches('u');
+    match digits.strip_prefix("0x") {
+        Some(digits) => u64::from_str_radix(digits, 16),
+        None => digits.parse(),
+    }
+    .unwrap_or_else(|_| panic!("{text} is no number"))
+}
+
+/// Each constant of the header, without the front of its name. A macro with arguments is no constant.
+fn defined() -> Vec<(&'static str, u64)> {
+    let lines = HEADER
+        .lines()
+        .filter_map(|line| line.strip_prefix("#define ARCHIVE_"));
+    let constants = lines.filter_map(|line| {
+        let mut words = line.split_whitespace();
+        let name = words.next().filter(|name| !name.contains('('))?;
+        Some((name, number(words.next()?)))
+    });
+    constants.collect()
+}
+
+/// The same by this crate, in the order of the header.
+const OURS: [(&str, u64); 35] = [
+    ("ABI", ABI as u64),
+    ("TABLE_WORDS", TABLE_WORDS as u64),
+    ("CALL_WORDS", CALL_WORDS as u64),
+    ("REPLY_WORDS", REPLY_WORDS as u64),
+    ("BLANK", BLANK as u64),
+    ("MAX_SERVERS", MAX_SERVERS as u64),
+    ("MAX_CAPACITY", MAX_CAPACITY as u64),
+    ("MAX_IDS", MAX_IDS as u64),
+    ("CONTENT_RANGE", CONTENT_RANGE as u64),
+    ("ADD_SERVER", call::ADD_SERVER as u64),
+    ("REWEIGHT", call::REWEIGHT as u64),
+    ("WRITE", call::WRITE as u64),
+    ("DELETE", call::DELETE as u64),
+    ("LOOKUP", call::LOOKUP as u64),
+    ("CALL_NUMBER", call::NUMBER as u64),
+    ("CALL_SUBJECT", call::SUBJECT as u64),
+    ("CALL_AMOUNT", call::AMOUNT as u64),
+    ("REPLY_REFUSAL", reply::REFUSAL as u64),
+    ("REPLY_SERVER", reply::SERVER as u64),
+    ("REPLY_VALUE", reply::VALUE as u64),
+    ("REPLY_OPENED", reply::OPENED as u64),
+    ("REPLY_INVALIDATED", reply::INVALIDATED as u64),
+    ("ACCEPTED", ACCEPTED as u64),
+    ("UNSOUND_TABLE", Refusal::UnsoundTable as u64),
+    ("OUT_OF_RANGE", Refusal::OutOfRange as u64),
+    ("NO_SUCH_SERVER", Refusal::NoSuchServer as u64),
+    ("TOO_MANY_SERVERS", Refusal::TooManyServers as u64),
+    ("SHORT_MEDIUM", Refusal::ShortMedium as u64),
+    ("SERVER_FULL", Refusal::ServerFull as u64),
+    ("NOT_BLANK", Refusal::NotBlank as u64),
+    ("NOT_FOUND", Refusal::NotFound as u64),
+    ("EXCEEDS_FREE", Refusal::ExceedsFree as u64),
+    ("CORRUPT", Refusal::Corrupt as u64),
+    ("SHORT", SHORT as u64),
+    ("NO_CALL", NO_CALL as u64),
+];
+
+#[test]
+fn the_header_has_the_numbers_of_the_crate() {
+    assert_eq!(defined(), OURS);
+}
+
+#[test]
+fn a_server_has_as_many_words() {
+    let line = "#define ARCHIVE_SERVER_WORDS(capacity) ((size_t)3 * (size_t)(capacity))";
+    assert!(HEADER.lines().any(|other| other == line));
+    assert_eq!(server_words(100), 300);
+}
+
+#[test]
+fn the_library_has_the_numbers_of_the_crate() {
+    assert_eq!(functions::abi(), ABI);
+    assert_eq!(functions::table_words(), TABLE_WORDS);
+}
+
+#[test]
+fn every_refusal_has_its_number() {
+    let numbers: Vec<u32> = (0..=11)
+        .chain([SHORT, NO_CALL])
+        .filter_map(Refusal::from_number)
+        .map(|refusal| refusal as u32)
+        .collect();
+    assert_eq!(numbers, (1..=10).collect::<Vec<u32>>());
+}

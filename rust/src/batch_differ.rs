@@ -1,0 +1,137 @@
+//! One batch, run on the proved code and on the Rust implementation. Every word is compared.
+
+use crate::archive::Table;
+use crate::batch;
+use crate::calls::{Reply, REFUSAL, REPLY_WORDS};
+use crate::differ::{compare_words, Difference, Lent, Tally, UNSTORED};
+use ticket_archive::{functions as proved, Archive};
+
+/// Table, medium, ids, replies, order, mounts; answers the number of the list.
+type Lookups = fn(&[u32], &[u32], &[u32], &mut [u32], &mut [u32], &mut [u32]) -> u32;
+
+/// How many words are lent for the answer.
+#[derive(Clone, Copy, Debug)]
+pub struct Room {
+    pub replies: usize,
+    pub order: usize,
+    pub mounts: usize,
+}
+
+impl Room {
+    /// Just enough for so many ids.
+    pub fn of(ids: usize) -> Self {
+        Room {
+            replies: REPLY_WORDS * ids,
+            order: ids,
+            mounts: 1,
+        }
+    }
+}
+
+/// What one side answered and left.
+struct Answered {
+    number: u32,
+    lent: [Vec<u32>; 3],
+    replies: Vec<u32>,
+    order: Vec<u32>,
+    mounts: Vec<u32>,
+}
+
+fn answered(run: Lookups, lent: [Vec<u32>; 3], room: Room) -> Answered {
+    let mut replies = vec![UNSTORED; room.replies];
+    let mut order = vec![UNSTORED; room.order];
+    let mut mounts = vec![UNSTORED; room.mounts];
+    let [table, medium, ids] = &lent;
+    let number = run(table, medium, ids, &mut replies, &mut order, &mut mounts);
+    Answered {
+        number,
+        lent,
+        replies,
+        order,
+        mounts,
+    }
+}
+
+fn compare_answers(proved: &Answered, rust: &Answered) -> Result<(), Difference> {
+    compare_words("number of the list", &[proved.number], &[rust.number])?;
+    compare_words("replies", &proved.replies, &rust.replies)?;
+    compare_words("order", &proved.order, &rust.order)?;
+    compare_words("mounts", &proved.mounts, &rust.mounts)?;
+    let names = ["table lent", "medium lent", "ids lent"];
+    for (at, name) in names.into_iter().enumerate() {
+        compare_words(name, &proved.lent[at], &rust.lent[at])?;
+    }
+    Ok(())
+}
+
+/// The same by the method of the safe archive, whose results are turned into words again.
+fn by_method(
+    table: &[u32],
+    medium: &[u32],
+    ids: &[u32],
+    replies: &mut [u32],
+    order: &mut [u32],
+    mounts: &mut [u32],
+) -> u32 {
+    let table = *table.first_chunk().expect("a whole table");
+    let mut medium = medium.to_vec();
+    let batch = match Archive::from_words(table, &mut medium).lookup_batch(ids) {
+        Ok(batch) => batch,
+        Err(refusal) => return refusal as u32,
+    };
+    assert_eq!(batch.answers.len(), ids.len());
+    for (words, answer) in replies.chunks_exact_mut(REPLY_WORDS).zip(batch.answers) {
+        words.copy_from_slice(&Reply::from_typed(answer).words());
+    }
+    order[..ids.len()].copy_from_slice(&batch.order);
+    mounts[0] = batch.mounts;
+    0
+}
+
+impl Lent {
+    /// Looks the ids up on both sides, with so much room for the answer.
+    pub fn run_batch(&self, ids: &[u32], room: Room, tally: &mut Tally) -> Result<(), Difference> {
+        let answered = |run: Lookups| {
+            let lent = [self.table.clone(), self.medium.clone(), ids.to_vec()];
+            answered(run, lent, room)
+        };
+        let proved = answered(proved::lookup_batch);
+        let rust = answered(batch::lookup_batch);
+        tally.count_batch(proved.number, ids.len(), &proved.replies);
+        compare_answers(&proved, &rust)
+            .and_then(|()| match proved.number {
+                batch::SHORT => Ok(()),
+                _ => compare_answers(&answered(by_method), &rust)
+                    .map_err(|text| format!("by the method: {text}")),
+            })
+            .map_err(|text| self.described(text, ids, room))
+    }
+
+    fn described(&self, text: Difference, ids: &[u32], room: Room) -> Difference {
+        let words = self.medium.len();
+        let table = match self.table.first_chunk() {
+            Some(words) => Table::from_words(words).described(),
+            None => format!("a table of {} words", self.table.len()),
+        };
+        format!(
+            "{text}\n{table}\n{words} words of medium, {room:?}\nids {ids:?}\nmedium {:?}\n",
+            self.medium
+        )
+    }
+}
+
+impl Tally {
+    fn count_batch(&mut self, number: u32, ids: usize, replies: &[u32]) {
+        self.batches += 1;
+        match number {
+            0 => {
+                self.batch_ids += ids as u64;
+                for reply in replies.chunks_exact(REPLY_WORDS).take(ids) {
+                    self.batch_refusals[reply[REFUSAL] as usize] += 1;
+                }
+            }
+            1 | 2 => self.batches_refused[number as usize] += 1,
+            _ => self.short_runs += 1,
+        }
+    }
+}
