@@ -19,8 +19,8 @@ use Rattle.history.specs.Machine.{State}
 use Rattle.encoding.specs.Encoding.{callLength, replyLength, withReplyAt}
 use Rattle.encoding.specs.ByNumber.{callOf, callAt, tooShort, replyTo, nextBy, usedAfter}
 use Rattle.encoding.proofs.Calling.{counts, called-in}
-use Rattle.replay.specs.Lent.{lent}
-use Rattle.replay.proofs.Lent.{call-count}
+use Rattle.call_words.specs.CallWords.{lent}
+use Rattle.call_words.proofs.Kept.{call-count}
 use Rattle.call_words.specs.CallWords.{withColumn, fitsCall, afterCall}
 use Rattle.call_words.proofs.Columns.{used-stored, length-column}
 

@@ -34,7 +34,7 @@ together a b weights used numerators denominators rest e f =
     ∙ append-assoc (front ++ used) numerators (denominators ++ rest)
     ∙ append-assoc front used (numerators ++ (denominators ++ rest))))
 
-long-table : (words : List ℕ) (t : Table) → tableLength ≤ length words → wordsOf t ++ drop tableLength words ≡ withTable words t
+pub long-table : (words : List ℕ) (t : Table) → tableLength ≤ length words → wordsOf t ++ drop tableLength words ≡ withTable words t
 unfolding withTable
 long-table words t l = rw (le-ltb (length words) tableLength l)
 
@@ -53,3 +53,11 @@ length-column words at l = length-take 256 (drop at words) ∙ omega (arith, len
 pub column-stored : (words column column′ : List ℕ) (at : ℕ) → column ≡ column′ → take at words ++ (column ++ drop 256 (drop at words)) ≡ withColumn words at column′
 unfolding withColumn
 column-stored words column column′ at e = ap₂ (λ (x y : List ℕ). take at words ++ (x ++ y)) e (drop-drop 256 at words)
+
+-- to store the table that is there changes nothing
+pub stored-same : (words : List ℕ) → tableLength ≤ length words → withTable words (tableFrom words) ≡ words
+unfolding tableFrom withColumn
+stored-same words l =
+    sym (used-stored words (columnFrom words usedOffset) l)
+    ∙ ap (λ (rest : List ℕ). take usedOffset words ++ rest) (sym (column-next words usedOffset))
+    ∙ take-append-drop usedOffset words

@@ -6,10 +6,14 @@ use mathlib.Core.List.{List, _++_}
 use lib.ListN.{length, take, drop}
 use lib.Dec.{leb}
 use Rattle.limits.specs.Limits.{maxServers}
-use Rattle.table.specs.Words.{tableLength, withTable}
+use Rattle.table.specs.Words.{tableLength, tableFrom, withTable}
 use Rattle.encoding.specs.Encoding.{callLength, replyLength, withReplyAt}
 use Rattle.encoding.specs.ByNumber.{callAt, tooShort, replyTo, nextBy}
-use Rattle.replay.specs.Lent.{lent}
+use Rattle.history.specs.Machine.{State}
+
+-- a lent table over a lent medium
+abbrev pub lent : List ℕ → List ℕ → State
+lent words m = record { table = tableFrom words; medium = m }
 
 -- the refusal number, and table, medium and reply after the call
 pub record AfterCall : Type 0 where

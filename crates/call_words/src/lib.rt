@@ -8,7 +8,7 @@ ghost use Rattle.lists.specs.Below.{nth};
 ghost use Rattle.table.specs.Words.{usedOffset, tableLength, columnFrom, withTable};
 ghost use Rattle.replies.specs.Number.{addServerNumber, reweightNumber, writeNumber};
 ghost use Rattle.encoding.specs.ByNumber.{callOf, replyTo, nextBy, usedAfter};
-ghost use Rattle.replay.specs.Lent.{lent};
+ghost use Rattle.call_words.specs.CallWords.{lent};
 ghost use Rattle.call_words.specs.CallWords.{withColumn, afterCall};
 use encoding::AMOUNT_OFFSET;
 use encoding::CALL_LENGTH;
@@ -57,7 +57,7 @@ fn count(words: &mut [u32], number: u32, reply: Reply)
 }
 
 // Runs a call by its number on a table lent as words.
-fn run(table: &mut [u32], medium: &mut [u32], number: u32, subject: u32, amount: u32) -> Reply
+pub fn run(table: &mut [u32], medium: &mut [u32], number: u32, subject: u32, amount: u32) -> Reply
     requires { ⌜ tableLength ≤ length (now table) ⌝ }
     ensures reply { λ r. ⌜ r ≡ replyTo (lent (now (table .entry)) (now (medium .entry))) (callOf number subject amount) ⌝ }
     ensures table { λ _. ⌜ now (table .exit) ≡ withTable (now (table .entry)) (nextBy (lent (now (table .entry)) (now (medium .entry))) (callOf number subject amount) .table) ⌝ }

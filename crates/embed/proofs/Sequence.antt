@@ -7,59 +7,24 @@ use mathlib.Core.Bool.{true, false}
 use mathlib.Core.List.{List, [], _∷_}
 use mathlib.Core.Option.{Option, none, some}
 use native.Mathlib.Omega.{arith}
-use lib.ListN.{length, replicate, length-append, length-drop}
+use lib.ListN.{length, replicate}
 use lib.Dec.{leb}
-use borrow.Author.Tests.{le-leb, le-ltb}
+use borrow.Author.Tests.{le-leb}
 use Rattle.lists.proofs.Tests.{byBool}
 use Rattle.medium.specs.Word.{blank}
 use Rattle.table.specs.declared.Table.{Table}
-use Rattle.table.specs.Words.{tableLength, tableFrom, wordsOf, withTable}
-use Rattle.table.proofs.Soundness.{Arrays, empty-arrays}
+use Rattle.table.specs.Words.{tableLength, tableFrom, withTable}
 use Rattle.table.proofs.Lent.{stored-lent}
-use Rattle.upkeep.proofs.Upkeep.{withServer-arrays, withWeight-arrays, withEntry-arrays}
-use Rattle.replies.proofs.Refusals.{settle-either}
-use Rattle.planning.specs.WriteRows.{target, writeRows}
-use Rattle.writing.specs.Writing.{writeTable}
-use Rattle.servers.specs.Servers.{startRows, startTable, addServerRows, addServerTable, reweightRows, reweightTable}
-use Rattle.history.specs.Call.{Call, addServer, reweight, write, delete, lookup, batch}
-use Rattle.history.specs.Machine.{State, next, after, begin}
+use Rattle.servers.specs.Servers.{startTable}
+use Rattle.history.specs.Call.{Call}
+use Rattle.history.specs.Machine.{State, after, begin}
 use Rattle.encoding.specs.Encoding.{callLength}
 use Rattle.encoding.specs.ByNumber.{callAt, nextBy}
-use Rattle.replay.specs.Lent.{lent}
+use Rattle.call_words.specs.CallWords.{lent}
 use Rattle.call_words.specs.CallWords.{fitsCall, afterCall}
-use Rattle.call_words.proofs.Columns.{length-column}
+use Rattle.replay.proofs.Replaying.{start-arrays}
+use Rattle.call_words.proofs.Kept.{lent-arrays, call-arrays, length-stored}
 use Rattle.embed.specs.Sequence.{Runs, unanswered, afterCalls, callIn, joined, callsOf}
-
--- a table lent as words has whole arrays, and a call keeps them so
-lent-arrays : (words : List ℕ) → tableLength ≤ length words → Arrays (tableFrom words)
-unfolding tableFrom
-lent-arrays words l = record {
-  weights = length-column words 2 (omega arith);
-  used = length-column words 258 (omega arith);
-  numerators = length-column words 514 (omega arith);
-  denominators = length-column words 770 (omega arith);
-}
-
-next-arrays : (S : State) (c : Call) → Arrays (S .table) → Arrays (next S c .table)
-unfolding next addServerTable reweightTable writeTable
-next-arrays S (addServer weight) a = settle-either (addServerRows (S .table) (S .medium) weight) _ _ Arrays (λ _. withServer-arrays (S .table) weight a) a
-next-arrays S (reweight server weight) a = settle-either (reweightRows (S .table) server weight) _ _ Arrays (λ _. withWeight-arrays (S .table) server weight a) a
-next-arrays S (write id value) a = settle-either (writeRows (S .table) (S .medium) id value) _ _ Arrays (λ _. withEntry-arrays (S .table) (target (S .table) id) a) a
-next-arrays S (delete id) a = a
-next-arrays S (lookup id) a = a
-next-arrays S (batch ids) a = a
-
-call-arrays : (S : State) (o : Option Call) → Arrays (S .table) → Arrays (nextBy S o .table)
-unfolding nextBy
-call-arrays S none a = a
-call-arrays S (some c) a = next-arrays S c a
-
--- to store a table changes no length
-length-stored : (words : List ℕ) (t : Table) → tableLength ≤ length words → Arrays t → length (withTable words t) ≡ length words
-unfolding withTable wordsOf
-length-stored words t l a =
-    rw (le-ltb (length words) tableLength l)
-    (simp length-append (omega (arith, a .weights, a .used, a .numerators, a .denominators, length-drop tableLength words)))
 
 -- one call
 module _ (R : Runs) (call : List ℕ) (l : tableLength ≤ length (R .table)) where
@@ -105,10 +70,6 @@ sequence (call ∷ calls) R l =
     sequence calls (R′ R call l) (o .1)
     ∙ ap (λ (S : State). after S (callsOf calls)) (o .0)
     ∙ sym (after-joined (lent (R .table) (R .medium)) (callIn call) (callsOf calls))
-
-start-arrays : (capacity : ℕ) → Arrays (startTable capacity)
-unfolding startTable
-start-arrays capacity = settle-either (startRows capacity) _ _ Arrays (λ _. empty-arrays capacity) (empty-arrays 0)
 
 -- from a start over n blank words: the state that the third demand speaks of
 pub sequence-started : (capacity n : ℕ) (words : List ℕ) → tableLength ≤ length words → (calls : List (List ℕ))

@@ -3,20 +3,14 @@
 use Prim.Native.Nat.{ℕ, _≤_, _<_}
 use mathlib.Core.Path.{_≡_, ap, _∙_}
 use mathlib.Core.List.{List}
-use native.Mathlib.Omega.{arith}
 use lib.ListN.{length}
 use borrow.Author.Tests.{le-leb, lt-leb, lt-ltb}
 use Rattle.table.specs.declared.Table.{Table}
 use Rattle.table.specs.Words.{tableLength, withTable}
 use Rattle.replies.specs.declared.Reply.{Reply}
-use Rattle.replies.proofs.Refusals.{settle-either}
-use Rattle.servers.specs.Servers.{startRows, startReply, startTable}
+use Rattle.servers.specs.Servers.{startReply, startTable}
 use Rattle.encoding.specs.ByNumber.{tooShort}
 use Rattle.embed.specs.Embed.{startNumber}
-
-pub start-count : (capacity : ℕ) (t : Table) → t ≡ startTable capacity → t .count < 4294967296
-unfolding startTable
-start-count capacity t e = rw e (settle-either (startRows capacity) _ _ (λ (u : Table). u .count < 4294967296) (λ _. omega arith) (omega arith))
 
 -- what `archive_start` ensures where it answers n
 abbrev pub Started : ℕ → List ℕ → ℕ → List ℕ → Type 0

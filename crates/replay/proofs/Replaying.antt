@@ -1,13 +1,13 @@
 -- An encoded list of calls, run call by call: what holds once i calls are run, and where their replies stand.
 -- Assumes nothing.
 use Prim.Native.Nat.{ℕ, zero, suc, _+_, _*_, _≤_, _<_}
-use mathlib.Core.Path.{_≡_, refl, sym, ap, ap₂, _∙_}
+use mathlib.Core.Path.{_≡_, refl, sym, ap, ap₂, _∙_, subst}
 use mathlib.Core.Logic.{_≢_}
 use mathlib.Core.List.{List, [], _∷_}
 use mathlib.Core.Option.{Option, none, some}
 use native.Mathlib.Numerals.{add-one}
 use native.Mathlib.Omega.{arith}
-use lib.ListN.{length, set, replicate}
+use lib.ListN.{length}
 use lib.Dec.{eqb}
 use borrow.Author.Tests.{eqb-true, eqb-false}
 use Rattle.lists.specs.Below.{nth}
@@ -15,13 +15,16 @@ use Rattle.lists.proofs.Tests.{byBool}
 use Rattle.lists.proofs.Below.{replicate-all}
 use Rattle.medium.specs.Word.{blank}
 use Rattle.table.specs.declared.Table.{Table}
+use Rattle.table.specs.Words.{tableLength, tableFrom, withTable}
+use Rattle.table.proofs.Soundness.{Arrays, empty-arrays}
+use Rattle.table.proofs.Lent.{stored-lent}
 use Rattle.replies.specs.Refusal.{firstOf}
 use Rattle.replies.specs.declared.Refusal.{Refusal}
 use Rattle.replies.specs.declared.Check.{Check}
 use Rattle.replies.specs.declared.Check.the-variants.{Accepted, Refused}
 use Rattle.replies.specs.declared.Reply.{Reply}
 use Rattle.replies.specs.Reply.{replyOfCheck}
-use Rattle.replies.proofs.Refusals.{settle-yes, settle-no}
+use Rattle.replies.proofs.Refusals.{settle-yes, settle-no, settle-either}
 use Rattle.replies.proofs.Answers.{number-not-zero, reply-number}
 use Rattle.servers.specs.Servers.{startRows, startReply, startTable}
 use Rattle.history.specs.Call.{Call, compared}
@@ -29,10 +32,12 @@ use Rattle.history.specs.Machine.{State, after, begin}
 use Rattle.history.specs.Ledger.{freshLedger, ledgerAfter}
 use Rattle.history.proofs.Unaltered.{after-append}
 use Rattle.history.proofs.Run.{begin-agrees, step, run}
-use Rattle.encoding.specs.Encoding.{callLength, numberOffset, subjectOffset, amountOffset, replyLength, roomFor, withReplyAt, withReply, replyFrom}
+use Rattle.encoding.specs.Encoding.{callLength, numberOffset, subjectOffset, amountOffset, replyLength, roomFor, withReplyAt, withReply}
 use Rattle.encoding.specs.ByNumber.{callOf, callAt, replyTo, nextBy}
-use Rattle.encoding.proofs.Calling.{Called}
-use Rattle.encoding.proofs.Storing.{Stored, length-withReply, stored-here, stored-below, reply-back}
+use Rattle.encoding.proofs.Storing.{Stored, length-withReply, stored-here, stored-below}
+use Rattle.call_words.specs.CallWords.{lent}
+use Rattle.call_words.proofs.Columns.{stored-same}
+use Rattle.call_words.proofs.Kept.{lent-arrays, call-arrays, length-stored, stored-again}
 use Rattle.replay.specs.Replay.{appended, callsBelow, ledgerReplyTo, withReplies, runs, startState, replyAt, ledgerReplyAt, LedgerWords}
 
 -- one call more
@@ -101,59 +106,84 @@ pub start-refused : (capacity : ℕ) (c : Check) (x : Refusal) → c ≡ Refused
 unfolding replyOfCheck
 start-refused capacity c x e f z = number-not-zero x (ap (λ (r : Reply). r .refusal) (sym (ap replyOfCheck e) ∙ f) ∙ start-number capacity ∙ z)
 
--- once i calls are run
-pub record Replayed (S : State) (calls words : List ℕ) (i : ℕ) (table : Table) (medium replies : List ℕ) : Type 0 where
-  pub state : record { table = table; medium = medium } ≡ after S (callsBelow calls i)
-  pub stored : replies ≡ withReplies (replyAt S calls) i words
-  pub sameMedium : length medium ≡ length (S .medium)
-  pub sameReplies : length replies ≡ length words
+-- once i calls are run on a table lent as words
+pub record Replayed (words m calls replies : List ℕ) (i : ℕ) (words′ medium replies′ : List ℕ) : Type 0 where
+  pub state : lent words′ medium ≡ after (lent words m) (callsBelow calls i)
+  pub table : words′ ≡ withTable words (after (lent words m) (callsBelow calls i) .table)
+  pub stored : replies′ ≡ withReplies (replyAt (lent words m) calls) i replies
+  pub sameTable : length words′ ≡ length words
+  pub sameMedium : length medium ≡ length m
+  pub sameReplies : length replies′ ≡ length replies
 
-module _ (S : State) (calls words : List ℕ) where
-  pub none-run : Replayed S calls words 0 (S .table) (S .medium) words
+module _ (words m calls replies : List ℕ) (l : tableLength ≤ length words) where
+  -- the state that is run from
+  abbrev S : State
+  S = lent words m
+
+  after-arrays : (i : ℕ) → Arrays (after S (callsBelow calls i) .table)
+  unfolding after callsBelow
+  after-arrays zero = lent-arrays words l
+  after-arrays (suc i) = subst (λ (T : State). Arrays (T .table)) (sym (appended-after S (callsBelow calls i) (callAt calls i))) (call-arrays (after S (callsBelow calls i)) (callAt calls i) (after-arrays i))
+
+  pub none-run : Replayed words m calls replies 0 words m replies
   unfolding after callsBelow withReplies
-  none-run = record { state = refl; stored = refl; sameMedium = refl; sameReplies = refl }
+  none-run = record { state = refl; table = sym (stored-same words l); stored = refl; sameTable = refl; sameMedium = refl; sameReplies = refl }
 
-  pub one-run : (i : ℕ) (table table′ : Table) (medium medium′ replies replies′ : List ℕ) (r : Reply)
-      → Replayed S calls words i table medium replies
-      → Called (record { table = table; medium = medium }) (callAt calls i) r table′ medium′
-      → length medium′ ≡ length medium → replies′ ≡ withReply replies i r
-      → Replayed S calls words (i + 1) table′ medium′ replies′
+  pub one-run : (i : ℕ) (words₁ words₂ medium medium′ replies₁ replies₂ : List ℕ) (r : Reply)
+      → Replayed words m calls replies i words₁ medium replies₁
+      → r ≡ replyTo (lent words₁ medium) (callAt calls i)
+      → words₂ ≡ withTable words₁ (nextBy (lent words₁ medium) (callAt calls i) .table)
+      → medium′ ≡ nextBy (lent words₁ medium) (callAt calls i) .medium
+      → length medium′ ≡ length medium → replies₂ ≡ withReply replies₁ i r
+      → Replayed words m calls replies (i + 1) words₂ medium′ replies₂
   unfolding replyAt
-  one-run i table table′ medium medium′ replies replies′ r d c l e = record {
-    state =
-        ap₂ (λ (t : Table) (w : List ℕ). record { table = t; medium = w }) (c .1 .0) (c .1 .1)
-        ∙ ap (λ (T : State). nextBy T (callAt calls i)) (d .state)
-        ∙ sym (after-more S calls i);
-    stored =
-        e
-        ∙ ap₂ (λ (w : List ℕ) (x : Reply). withReply w i x) (d .stored) (c .0 ∙ ap (λ (T : State). replyTo T (callAt calls i)) (d .state))
-        ∙ sym (replies-more (replyAt S calls) i words);
-    sameMedium = l ∙ d .sameMedium;
-    sameReplies = ap length e ∙ length-withReply replies i r ∙ d .sameReplies;
-  }
+  one-run i words₁ words₂ medium medium′ replies₁ replies₂ r d e f g h s =
+      let o = callAt calls i in
+      let T = after S (callsBelow calls i) in
+      let T′ = after S (callsBelow calls (i + 1)) in
+      let long : tableLength ≤ length words₁ = omega (arith, d .sameTable) in
+      let next : nextBy (lent words₁ medium) o ≡ T′ = ap (λ (U : State). nextBy U o) (d .state) ∙ sym (after-more S calls i) in
+      let a : Arrays (T′ .table) = subst (λ (U : State). Arrays (U .table)) (sym (after-more S calls i)) (call-arrays T o (after-arrays i)) in
+      let w : words₂ ≡ withTable words (T′ .table) =
+      f ∙ ap (λ (U : State). withTable words₁ (U .table)) next ∙ ap (λ (v : List ℕ). withTable v (T′ .table)) (d .table) ∙ stored-again words (T .table) (T′ .table) l (after-arrays i)
+      in
+      record {
+        state = ap₂ (λ (t : Table) (v : List ℕ). record { table = t; medium = v }) (ap tableFrom w ∙ stored-lent words (T′ .table) l a) (g ∙ ap (λ (U : State). U .medium) next);
+        table = w;
+        stored =
+            s
+            ∙ ap₂ (λ (v : List ℕ) (x : Reply). withReply v i x) (d .stored) (e ∙ ap (λ (U : State). replyTo U o) (d .state))
+            ∙ sym (replies-more (replyAt S calls) i replies);
+        sameTable = ap length w ∙ length-stored words (T′ .table) l a;
+        sameMedium = h ∙ d .sameMedium;
+        sameReplies = ap length s ∙ length-withReply replies₁ i r ∙ d .sameReplies;
+      }
 
 -- the calls before the word at are run, of n
-pub record ReplayedTo (S : State) (calls words : List ℕ) (n at : ℕ) (table : Table) (medium replies : List ℕ) : Type 0 where
+pub record ReplayedTo (words m calls replies : List ℕ) (n at : ℕ) (words′ medium replies′ : List ℕ) : Type 0 where
   pub index : ℕ
   pub begins : at ≡ callLength * index
   pub few : index ≤ n
-  pub done : Replayed S calls words index table medium replies
+  pub done : Replayed words m calls replies index words′ medium replies′
 
-module _ (S : State) (calls words : List ℕ) (n : ℕ) where
-  pub none-to : ReplayedTo S calls words n 0 (S .table) (S .medium) words
-  none-to = record { index = 0; begins = refl; few = omega arith; done = none-run S calls words }
+module _ (words m calls replies : List ℕ) (n : ℕ) (l : tableLength ≤ length words) where
+  pub none-to : ReplayedTo words m calls replies n 0 words m replies
+  none-to = record { index = 0; begins = refl; few = omega arith; done = none-run words m calls replies l }
 
-  pub one-to : (at : ℕ) (table table′ : Table) (medium medium′ replies replies′ : List ℕ) (r : Reply)
-      → ReplayedTo S calls words n at table medium replies → at < callLength * n
-      → Called (record { table = table; medium = medium }) (callOf (nth calls (at + numberOffset)) (nth calls (at + subjectOffset)) (nth calls (at + amountOffset))) r table′ medium′
-      → length medium′ ≡ length medium → replies′ ≡ withReplyAt replies at r
-      → ReplayedTo S calls words n (at + callLength) table′ medium′ replies′
+  pub one-to : (at : ℕ) (words₁ words₂ medium medium′ replies₁ replies₂ : List ℕ) (r : Reply)
+      → ReplayedTo words m calls replies n at words₁ medium replies₁ → at < callLength * n
+      → let o = callOf (nth calls (at + numberOffset)) (nth calls (at + subjectOffset)) (nth calls (at + amountOffset)) in
+      r ≡ replyTo (lent words₁ medium) o
+      → words₂ ≡ withTable words₁ (nextBy (lent words₁ medium) o .table)
+      → medium′ ≡ nextBy (lent words₁ medium) o .medium
+      → length medium′ ≡ length medium → replies₂ ≡ withReplyAt replies₁ at r
+      → ReplayedTo words m calls replies n (at + callLength) words₂ medium′ replies₂
   unfolding callAt
-  one-to at table table′ medium medium′ replies replies′ r d b c l e = record {
+  one-to at words₁ words₂ medium medium′ replies₁ replies₂ r d b e f g h s = record {
     index = d .index + 1;
     begins = omega (arith, d .begins);
     few = omega (arith, d .begins);
-    done = one-run S calls words (d .index) table table′ medium medium′ replies replies′ r (d .done) (rw (d .begins) at c) l (e ∙ ap (λ (a : ℕ). withReplyAt replies a r) (d .begins));
+    done = one-run words m calls replies l (d .index) words₁ words₂ medium medium′ replies₁ replies₂ r (d .done) (rw (d .begins) at e) (rw (d .begins) at f) (rw (d .begins) at g) h (s ∙ ap (λ (a : ℕ). withReplyAt replies₁ a r) (d .begins));
   }
 
 -- what `replay` ensures where it answers n
@@ -171,38 +201,30 @@ module _ (capacity : ℕ) (m calls words : List ℕ) where
   refused-run f = (sym (settle-no (startRows capacity) _ 0 f), (refl, (refl, record { alike = λ b i l. absurd (omega arith) })))
 
   -- all of them, from a start that was accepted
-  pub all-run : (n : ℕ) (begun table : Table) (medium replies : List ℕ) → firstOf (startRows capacity) ≡ 0 → n ≡ roomFor (length calls) (length words)
-      → begun ≡ startTable capacity
-      → record { table = table; medium = medium } ≡ after (record { table = begun; medium = m }) (callsBelow calls n)
-      → replies ≡ withReplies (replyAt (record { table = begun; medium = m }) calls) n words
+  pub all-run : (n : ℕ) (S : State) (medium replies : List ℕ) → firstOf (startRows capacity) ≡ 0 → n ≡ roomFor (length calls) (length words)
+      → S ≡ startState capacity m
+      → medium ≡ after S (callsBelow calls n) .medium
+      → replies ≡ withReplies (replyAt S calls) n words
       → Done capacity m calls words n medium replies
   unfolding runs
-  all-run n begun table medium replies z o b d e =
-      let r : replies ≡ withReplies (replyAt (startState capacity m) calls) n words = rw b at e in (
-        o ∙ sym (settle-yes (startRows capacity) _ 0 z),
-        (ap (λ (S : State). S .medium) (rw b at d), (r, rw r (ledger-words capacity z m calls words n (omega arith)))),
-      )
+  all-run n S medium replies z o b d e =
+      let r : replies ≡ withReplies (replyAt (startState capacity m) calls) n words = rw b at e in
+      (o ∙ sym (settle-yes (startRows capacity) _ 0 z), (rw b at d, (r, rw r (ledger-words capacity z m calls words n (omega arith)))))
 
--- one call, encoded over zeros and run into zeros
-abbrev encoded : ℕ → ℕ → ℕ → List ℕ
-encoded number subject amount = set (set (set (replicate callLength 0) numberOffset number) subjectOffset subject) amountOffset amount
+-- a started table, stored in front of words
+pub start-arrays : (capacity : ℕ) → Arrays (startTable capacity)
+unfolding startTable
+start-arrays capacity = settle-either (startRows capacity) _ _ Arrays (λ _. empty-arrays capacity) (empty-arrays 0)
 
-abbrev unanswered : List ℕ
-unanswered = replicate replyLength 0
-
-encoded-call : (number subject amount : ℕ) → callAt (encoded number subject amount) 0 ≡ callOf number subject amount
-unfolding callAt
-encoded-call number subject amount = refl
-
-pub one-encoded : (S : State) (number subject amount : ℕ) (table : Table) (medium replies : List ℕ) (r : Reply)
-    → record { table = table; medium = medium } ≡ after S (callsBelow (encoded number subject amount) 1)
-    → replies ≡ withReplies (replyAt S (encoded number subject amount)) 1 unanswered
-    → r ≡ replyFrom replies
-    → Called S (callOf number subject amount) r table medium
-unfolding callsBelow withReplies replyAt after
-one-encoded S number subject amount table medium replies r d e f =
-    let c = encoded-call number subject amount in
-    let s : record { table = table; medium = medium } ≡ nextBy S (callOf number subject amount) = d ∙ appended-after S [] _ ∙ ap (nextBy S) c in (
-      f ∙ ap replyFrom e ∙ reply-back _ ∙ ap (replyTo S) c,
-      (ap (λ (T : State). T .table) s, ap (λ (T : State). T .medium) s),
+pub started-words : (capacity : ℕ) (m words words′ : List ℕ) (t : Table) → tableLength ≤ length words → t ≡ startTable capacity → words′ ≡ withTable words t
+    → (lent words′ m ≡ startState capacity m) × (tableLength ≤ length words′)
+started-words capacity m words words′ t l e f =
+    let a = start-arrays capacity in
+    let w : words′ ≡ withTable words (startTable capacity) = rw e at f in (
+      ap (λ (u : Table). record { table = u; medium = m }) (ap tableFrom w ∙ stored-lent words (startTable capacity) l a),
+      omega (arith, ap length w, length-stored words (startTable capacity) l a),
     )
+
+pub start-count : (capacity : ℕ) (t : Table) → t ≡ startTable capacity → t .count < 4294967296
+unfolding startTable
+start-count capacity t e = rw e (settle-either (startRows capacity) _ _ (λ (u : Table). u .count < 4294967296) (λ _. omega arith) (omega arith))

@@ -4,13 +4,8 @@ use mathlib.Core.Bool.{cond}
 use mathlib.Core.List.{List}
 use lib.ListN.{length}
 use lib.Dec.{ltb}
-use Rattle.table.specs.Words.{tableLength, tableFrom}
-use Rattle.history.specs.Machine.{State}
+use Rattle.table.specs.Words.{tableLength}
 use Rattle.encoding.specs.Encoding.{roomFor}
-
--- a lent table over a lent medium
-abbrev pub lent : List ℕ → List ℕ → State
-lent words m = record { table = tableFrom words; medium = m }
 
 -- how many calls are run on it: none where there are too few words for a table
 unfoldable pub resumes : List ℕ → List ℕ → List ℕ → ℕ

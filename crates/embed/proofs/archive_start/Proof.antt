@@ -1,7 +1,8 @@
 -- `embed::archive_start` meets its contract.
 use mathlib.Core.Path.{_∙_}
 use borrow.Author.Needs.{needs}
-use Rattle.embed.proofs.Starting.{start-count, start-short, start-stored}
+use Rattle.replay.proofs.Replaying.{start-count}
+use Rattle.embed.proofs.Starting.{start-short, start-stored}
 use Rattle.embed.proofs.archive_start.Statement.{statement}
 use Rattle.embed.proofs.archive_start.Tie as tie
 

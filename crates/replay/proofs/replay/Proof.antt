@@ -1,12 +1,19 @@
 -- `replay::replay` meets its contract: no call after a refused start, and else as many as both slices have room for.
+use Prim.Native.Nat.{_≤_}
+use native.Mathlib.Omega.{arith}
+use lib.ListN.{length}
 use borrow.Author.Needs.{needs}
-use Rattle.replay.proofs.Replaying.{start-accepted, start-refused, refused-run, all-run}
+use Rattle.table.specs.Words.{tableLength}
+use Rattle.replay.proofs.Replaying.{start-accepted, start-refused, start-count, started-words, refused-run, all-run}
 use Rattle.replay.proofs.replay.Statement.{statement}
 use Rattle.replay.proofs.replay.Tie as tie
 
--- the start, over the call of `start`
+-- the start, over the call of `start`; the call of `start`, from the words for its table
 abbrev S : tie.After-start → tie.Start
 S c = c .before .before .before .before
+
+abbrev B : tie.After-table-words → tie.After-start
+B c = c .before .before .before .before
 
 start-requires : tie.Need-start-requires
 start-requires c κs = search needs
@@ -26,6 +33,25 @@ enum-told-2 c = search needs
 room-requires : tie.Need-room-requires
 room-requires c κs = search needs
 
+table-words-requires : tie.Need-table-words-requires
+table-words-requires c κs = search needs
+
+slice-aggregate-store-table : tie.Need-slice-aggregate-store-table
+slice-aggregate-store-table c = search needs
+
+-- the words for a table are enough for one
+long : (c : tie.After-table-words) → tableLength ≤ length (c .table-words .result)
+long c = omega (arith, c .table-words .ensures)
+
+store-table-requires : tie.Need-store-table-requires
+store-table-requires c κs =
+    let w = c .before in
+    let b = B w in
+    (long w, start-count (S b .args .capacity) _ (b .start .ensures .1))
+
+slice-aggregate-run-calls : tie.Need-slice-aggregate-run-calls
+slice-aggregate-run-calls c = search needs
+
 run-calls-requires : tie.Need-run-calls-requires
 run-calls-requires c κs = search needs
 
@@ -37,14 +63,16 @@ same-length-2 c = search needs
 
 returns-2 : tie.Need-returns-2
 returns-2 c =
-    let r = c .before .before .before .before in
-    let n = r .before .before .before in
-    let told = n .before in
-    let b = told .before .before in
+    let r = c .before .before .before .before .before in
+    let t = r .before .before .before .before .before in
+    let w = t .before .before in
+    let n = w .before in
+    let b = B w in
     let a = S b .args in
-    all-run (a .capacity) (a .medium .now) (a .calls .now) (a .replies .now) (n .room .result) (b .start .result .table) _ _ _
-    (start-accepted (a .capacity) (b .start .result .answer) (told .enum-told2 .given .1) (b .start .ensures .0))
-    (n .room .ensures) (b .start .ensures .1) (r .run-calls .ensures .0) (r .run-calls .ensures .1)
+    let s = started-words (a .capacity) (a .medium .now) _ _ _ (long w) (b .start .ensures .1) (t .store-table .ensures) in
+    all-run (a .capacity) (a .medium .now) (a .calls .now) (a .replies .now) (n .room .result) _ _ _
+    (start-accepted (a .capacity) (b .start .result .answer) (n .before .enum-told2 .given .1) (b .start .ensures .0))
+    (n .room .ensures) (s .0) (r .run-calls .ensures .1 .0) (r .run-calls .ensures .1 .1)
 
 pub replay-spec : {M : Type 1} → statement M
 replay-spec =
@@ -55,6 +83,10 @@ replay-spec =
     returns
     enum-told-2
     room-requires
+    table-words-requires
+    slice-aggregate-store-table
+    store-table-requires
+    slice-aggregate-run-calls
     run-calls-requires
     same-length
     same-length-2

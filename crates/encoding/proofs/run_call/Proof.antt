@@ -1,0 +1,60 @@
+-- `encoding::run_call` meets its contract: add_server and reweight by value, every other call on the borrowed columns.
+use mathlib.Core.Logic.{_≢_}
+use native.Mathlib.Omega.{arith}
+use borrow.Author.Needs.{needs}
+use Rattle.replies.specs.Number.{addServerNumber, reweightNumber}
+use Rattle.history.specs.Machine.{State}
+use Rattle.encoding.proofs.Calling.{counts, called-in}
+use Rattle.encoding.proofs.run_call.Statement.{statement}
+use Rattle.encoding.proofs.run_call.Tie as tie
+
+-- the branch of the calls on borrowed columns, its start, and the state there
+abbrev E : tie.After-run-in → tie.Else1
+E r = r .before .before .before .before .before .before .before .before .before .before .before
+
+abbrev A : tie.After-run-in → tie.Start
+A r = E r .before .before
+
+abbrev S : tie.After-run-in → State
+S r = let a = A r .args in record { table = a .t1; medium = a .medium .now }
+
+run-change-requires : tie.Need-run-change-requires
+run-change-requires c κs = search needs
+
+same-length : tie.Need-same-length
+same-length c = search needs
+
+returns : tie.Need-returns
+returns c = search needs
+
+run-in-requires : tie.Need-run-in-requires
+run-in-requires c κs = search needs
+
+count-in-requires : tie.Need-count-in-requires
+count-in-requires c κs =
+    let r = c .before .before .before in
+    let a = A r .args in
+    counts (S r) (a .number) (a .subject) (a .amount) (r .run-in .result) (r .run-in .ensures .0) (search needs)
+
+same-length-2 : tie.Need-same-length-2
+same-length-2 c = search needs
+
+returns-2 : tie.Need-returns-2
+returns-2 c =
+    let r = c .before .before .before .before in
+    let a = A r .args in
+    let one : a .number ≢ addServerNumber = λ e. omega (arith, E r .if1 .left) in
+    let two : a .number ≢ reweightNumber = λ e. omega (arith, E r .if1 .left) in
+    called-in (S r) (a .number) (a .subject) (a .amount) (r .run-in .result) (r .run-in .ensures .0) _ _ one two (c .count-in .ensures) (r .run-in .ensures .1)
+
+pub run-call-spec : {M : Type 1} → statement M
+run-call-spec =
+    tie.close
+    (tie.spec
+    run-change-requires
+    same-length
+    returns
+    run-in-requires
+    count-in-requires
+    same-length-2
+    returns-2)
