@@ -19,9 +19,8 @@ use Rattle.history.specs.Machine.{State}
 use Rattle.encoding.specs.Encoding.{callLength, replyLength, withReplyAt}
 use Rattle.encoding.specs.ByNumber.{callOf, callAt, tooShort, replyTo, nextBy, usedAfter}
 use Rattle.encoding.proofs.Calling.{counts, called-in}
-use Rattle.call_words.specs.CallWords.{lent}
 use Rattle.call_words.proofs.Kept.{call-count}
-use Rattle.call_words.specs.CallWords.{withColumn, fitsCall, afterCall}
+use Rattle.call_words.specs.CallWords.{lent, fitsCall, afterCall, withColumn}
 use Rattle.call_words.proofs.Columns.{used-stored, length-column}
 
 -- what `run` ensures

@@ -20,8 +20,7 @@ use Rattle.history.specs.Call.{Call}
 use Rattle.history.specs.Machine.{State, after, begin}
 use Rattle.encoding.specs.Encoding.{callLength}
 use Rattle.encoding.specs.ByNumber.{callAt, nextBy}
-use Rattle.call_words.specs.CallWords.{lent}
-use Rattle.call_words.specs.CallWords.{fitsCall, afterCall}
+use Rattle.call_words.specs.CallWords.{lent, fitsCall, afterCall}
 use Rattle.replay.proofs.Replaying.{start-arrays}
 use Rattle.call_words.proofs.Kept.{lent-arrays, call-arrays, length-stored}
 use Rattle.embed.specs.Sequence.{Runs, unanswered, afterCalls, callIn, joined, callsOf}

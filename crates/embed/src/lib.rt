@@ -9,9 +9,8 @@ ghost use Rattle.table.specs.Words.{tableLength, withTable};
 ghost use Rattle.servers.specs.Servers.{startTable};
 ghost use Rattle.history.specs.Machine.{after};
 ghost use Rattle.replay.specs.Replay.{callsBelow, withReplies, runs, startState, replyAt, LedgerWords};
-ghost use Rattle.call_words.specs.CallWords.{lent};
+ghost use Rattle.call_words.specs.CallWords.{lent, afterCall};
 ghost use Rattle.replay.specs.Lent.{resumes};
-ghost use Rattle.call_words.specs.CallWords.{afterCall};
 ghost use Rattle.batch_words.specs.BatchWords.{afterBatch};
 ghost use Rattle.embed.specs.Embed.{version, startNumber};
 

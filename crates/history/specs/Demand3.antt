@@ -1,4 +1,4 @@
--- The third demand: what holds after every list of calls, and of batches of lookups between them, from a fresh table and blank words.
+-- The third demand: what holds after every list of calls, batches of lookups among them, from a fresh table and blank words.
 use Prim.Native.Nat.{ℕ, _+_, _≤_, _<_}
 use mathlib.Core.Bool.{Bool, true, not, _&&_}
 use mathlib.Core.Path.{_≡_}
