@@ -27,7 +27,6 @@ pub use words::CALL_LENGTH;
 pub use words::NUMBER_OFFSET;
 pub use words::REPLY_LENGTH;
 pub use words::SUBJECT_OFFSET;
-pub use words::reply_from;
 pub use words::room;
 pub use words::store;
 

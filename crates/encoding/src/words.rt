@@ -1,8 +1,8 @@
-// The words of calls and replies: how many fit, and a reply stored and read back. specs/Encoding.antt says which word is which.
+// The words of calls and replies: how many fit, and a reply stored. specs/Encoding.antt says which word is which.
 ghost use mathlib.Core.Path.{_≡_};
 ghost use Prim.Native.Nat.{_<_, _≤_, _+_};
 ghost use lib.ListN.{length};
-ghost use Rattle.encoding.specs.Encoding.{replyLength, roomFor, withReplyAt, replyFrom};
+ghost use Rattle.encoding.specs.Encoding.{replyLength, roomFor, withReplyAt};
 use replies::Reply;
 
 // How many words a call has, and where those stand that are read.
@@ -54,18 +54,4 @@ pub fn store(replies: &mut [u32], at: usize, reply: Reply)
     replies[at + INVALIDATED_OFFSET] = reply.invalidated as u32;
     replies[at + SPARE_OFFSET] = 0;
     replies[at + LAST_OFFSET] = 0;
-}
-
-// The reply of eight words.
-pub fn reply_from(words: &[u32]) -> Reply
-    requires { ⌜ replyLength ≤ length (now words) ⌝ }
-    ensures { λ r. ⌜ r ≡ replyFrom (now (words .entry)) ⌝ }
-{
-    Reply {
-        refusal: words[REFUSAL_OFFSET],
-        server: words[SERVER_OFFSET] as usize,
-        value: words[VALUE_OFFSET],
-        opened: words[OPENED_OFFSET] as usize,
-        invalidated: words[INVALIDATED_OFFSET] as usize,
-    }
 }
