@@ -11,6 +11,7 @@ use borrow.Author.Tests.{le-ltb}
 use Rattle.table.specs.declared.Table.{Table}
 use Rattle.table.specs.Words.{tableLength, tableFrom, wordsOf, withTable}
 use Rattle.table.proofs.Soundness.{Arrays}
+use Rattle.table.proofs.Lent.{stored-lent}
 use Rattle.upkeep.specs.Upkeep.{withServer, withWeight, withEntry}
 use Rattle.upkeep.proofs.Upkeep.{withServer-arrays, withWeight-arrays, withEntry-arrays}
 use Rattle.replies.proofs.Refusals.{settle-either}
@@ -21,6 +22,7 @@ use Rattle.servers.proofs.Accepted.{addServer-accepted}
 use Rattle.history.specs.Call.{Call, addServer, reweight, write, delete, lookup, batch}
 use Rattle.history.specs.Machine.{State, next}
 use Rattle.encoding.specs.ByNumber.{nextBy}
+use Rattle.call_words.specs.CallWords.{lent}
 use Rattle.call_words.proofs.Columns.{length-column, long-table}
 
 -- a table lent as words has whole arrays, and a call keeps them so
@@ -68,6 +70,15 @@ stored-again words t u l a =
     sym (long-table (withTable words t) u long)
     ∙ ap (λ (rest : List ℕ). wordsOf u ++ rest) (rest-stored words t l a)
     ∙ long-table words u l
+
+-- the words and the medium after a call are lent as the state after it
+pub lent-next : (words m words′ m′ : List ℕ) (o : Option Call) → tableLength ≤ length words
+    → words′ ≡ withTable words (nextBy (lent words m) o .table) → m′ ≡ nextBy (lent words m) o .medium
+    → (lent words′ m′ ≡ nextBy (lent words m) o) × (length words′ ≡ length words)
+lent-next words m words′ m′ o l e f =
+    let a = call-arrays (lent words m) o (lent-arrays words l) in
+    let t : tableFrom words′ ≡ nextBy (lent words m) o .table = ap tableFrom e ∙ stored-lent words _ l a in
+    ((λ i. record { table = t i; medium = f i }), ap length e ∙ length-stored words _ l a)
 
 -- a count below 2^32
 abbrev pub Fits : Table → Type 0

@@ -22,7 +22,7 @@ use Rattle.encoding.specs.Encoding.{callLength}
 use Rattle.encoding.specs.ByNumber.{callAt, nextBy}
 use Rattle.call_words.specs.CallWords.{lent, fitsCall, afterCall}
 use Rattle.replay.proofs.Replaying.{start-arrays}
-use Rattle.call_words.proofs.Kept.{lent-arrays, call-arrays, length-stored}
+use Rattle.call_words.proofs.Kept.{length-stored, lent-next}
 use Rattle.embed.specs.Sequence.{Runs, unanswered, afterCalls, callIn, joined, callsOf}
 
 -- one call
@@ -47,9 +47,8 @@ module _ (R : Runs) (call : List ℕ) (l : tableLength ≤ length (R .table)) wh
   one-call = byBool (leb callLength (length call))
       (λ e.
       let d = made e in
-      let a = call-arrays S (callAt call 0) (lent-arrays (R .table) l) in
-      let t : tableFrom (R′ .table) ≡ nextBy S (callAt call 0) .table = ap tableFrom (d .0) ∙ stored-lent (R .table) _ l a in
-      rw e ((λ i. record { table = t i; medium = d .1 i }), omega (arith, ap length (d .0), length-stored (R .table) _ l a)))
+      let n = lent-next (R .table) (R .medium) (R′ .table) (R′ .medium) (callAt call 0) l (d .0) (d .1) in
+      rw e (n .0, omega (arith, n .1)))
       (λ e.
       let d = refused e in
       rw e ((λ i. record { table = ap tableFrom (d .0) i; medium = d .1 i }), omega (arith, ap length (d .0))))

@@ -37,7 +37,7 @@ use Rattle.encoding.specs.ByNumber.{callOf, callAt, replyTo, nextBy}
 use Rattle.encoding.proofs.Storing.{Stored, length-withReply, stored-here, stored-below}
 use Rattle.call_words.specs.CallWords.{lent}
 use Rattle.call_words.proofs.Columns.{stored-same}
-use Rattle.call_words.proofs.Kept.{lent-arrays, call-arrays, length-stored, stored-again}
+use Rattle.call_words.proofs.Kept.{lent-arrays, call-arrays, length-stored, stored-again, lent-next}
 use Rattle.replay.specs.Replay.{appended, callsBelow, ledgerReplyTo, withReplies, runs, startState, replyAt, ledgerReplyAt, LedgerWords}
 
 -- one call more
@@ -143,18 +143,18 @@ module _ (words m calls replies : List ℕ) (l : tableLength ≤ length words) w
       let T′ = after S (callsBelow calls (i + 1)) in
       let long : tableLength ≤ length words₁ = omega (arith, d .sameTable) in
       let next : nextBy (lent words₁ medium) o ≡ T′ = ap (λ (U : State). nextBy U o) (d .state) ∙ sym (after-more S calls i) in
-      let a : Arrays (T′ .table) = subst (λ (U : State). Arrays (U .table)) (sym (after-more S calls i)) (call-arrays T o (after-arrays i)) in
+      let kept = lent-next words₁ medium words₂ medium′ o long f g in
       let w : words₂ ≡ withTable words (T′ .table) =
       f ∙ ap (λ (U : State). withTable words₁ (U .table)) next ∙ ap (λ (v : List ℕ). withTable v (T′ .table)) (d .table) ∙ stored-again words (T .table) (T′ .table) l (after-arrays i)
       in
       record {
-        state = ap₂ (λ (t : Table) (v : List ℕ). record { table = t; medium = v }) (ap tableFrom w ∙ stored-lent words (T′ .table) l a) (g ∙ ap (λ (U : State). U .medium) next);
+        state = kept .0 ∙ next;
         table = w;
         stored =
             s
             ∙ ap₂ (λ (v : List ℕ) (x : Reply). withReply v i x) (d .stored) (e ∙ ap (λ (U : State). replyTo U o) (d .state))
             ∙ sym (replies-more (replyAt S calls) i replies);
-        sameTable = ap length w ∙ length-stored words (T′ .table) l a;
+        sameTable = kept .1 ∙ d .sameTable;
         sameMedium = h ∙ d .sameMedium;
         sameReplies = ap length s ∙ length-withReply replies₁ i r ∙ d .sameReplies;
       }
