@@ -18,7 +18,7 @@ start-reply-requires c κs = search needs
 store-table-requires : tie.Need-store-table-requires
 store-table-requires c κs =
     let s = c .before .before in
-    (s .before .if1 .left, start-count (s .before .before .before .args .capacity) _ (s .start .ensures .1))
+    (s .before .if1 .left, start-count _ _ (s .start .ensures .1))
 
 same-length : tie.Need-same-length
 same-length c = search needs
