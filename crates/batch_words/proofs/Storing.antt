@@ -16,8 +16,8 @@ use Rattle.lists.proofs.Tests.{and-l, and-r, byBool}
 use Rattle.medium.specs.Word.{tagOf}
 use Rattle.medium.specs.Entry.{valueAt}
 use Rattle.table.specs.declared.Table.{Table}
-use Rattle.table.specs.Words.{tableLength, tableFrom}
 use Rattle.table.specs.Sound.{sound}
+use Rattle.table_words.specs.Words.{tableLength, tableFrom}
 use Rattle.replies.specs.declared.Reply.{Reply}
 use Rattle.replies.specs.Refusal.{firstOf}
 use Rattle.replies.specs.Reply.{replyBy}

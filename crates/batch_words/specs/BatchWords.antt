@@ -6,7 +6,7 @@ use mathlib.Core.List.{List}
 use lib.ListN.{length, set}
 use lib.Dec.{leb, eqb}
 use Rattle.lists.specs.Below.{nth, setBelow}
-use Rattle.table.specs.Words.{tableLength, tableFrom}
+use Rattle.table_words.specs.Words.{tableLength, tableFrom}
 use Rattle.replies.specs.declared.Reply.{Reply}
 use Rattle.lookup.specs.Lookup.{lookupReply}
 use Rattle.batch_answer.specs.declared.Batch.{Batch}

@@ -16,7 +16,7 @@ use replies::Reply;
 fn fits(table: &[u32], n: usize, replies: &[u32], order: &[u32], mounts: &[u32]) -> bool
     ensures { λ r. ⌜ r ≡ fitsBatch n (now (table .entry)) (now (replies .entry)) (now (order .entry)) (now (mounts .entry)) ⌝ }
 {
-    if table.len() < table::TABLE_LENGTH {
+    if table.len() < table_words::TABLE_LENGTH {
         return false;
     }
     if replies.len() / REPLY_LENGTH < n {
@@ -81,7 +81,7 @@ pub fn lookup_batch(
     if !fits(table, n, replies, order, mounts) {
         return encoding::TOO_SHORT;
     }
-    let batch = batch::lookup_batch(table::table_from(table), medium, ids);
+    let batch = batch::lookup_batch(table_words::table_from(table), medium, ids);
     if batch.refusal != 0 {
         return batch.refusal;
     }

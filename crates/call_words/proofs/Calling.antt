@@ -11,7 +11,7 @@ use lib.ListN.{length}
 use borrow.Author.Tests.{le-leb, lt-leb}
 use Rattle.lists.specs.Below.{nth}
 use Rattle.table.specs.declared.Table.{Table}
-use Rattle.table.specs.Words.{usedOffset, tableLength, columnFrom, tableFrom, withTable}
+use Rattle.table_words.specs.Words.{usedOffset, tableLength, columnFrom, tableFrom, withTable}
 use Rattle.replies.specs.Number.{addServerNumber, reweightNumber, writeNumber}
 use Rattle.replies.specs.declared.Reply.{Reply}
 use Rattle.history.specs.Call.{Call}

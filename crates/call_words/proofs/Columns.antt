@@ -9,7 +9,7 @@ use lib.Seq.{drop-drop}
 use borrow.Author.Tests.{le-ltb}
 use Rattle.lists.specs.Below.{nth}
 use Rattle.table.specs.declared.Table.{Table}
-use Rattle.table.specs.Words.{capacityOffset, countOffset, weightsOffset, usedOffset, numeratorsOffset, denominatorsOffset, tableLength, columnFrom, tableFrom, wordsOf, withTable}
+use Rattle.table_words.specs.Words.{capacityOffset, countOffset, weightsOffset, usedOffset, numeratorsOffset, denominatorsOffset, tableLength, columnFrom, tableFrom, wordsOf, withTable}
 use Rattle.encoding.proofs.Calling.{withUsed}
 use Rattle.call_words.specs.CallWords.{withColumn}
 

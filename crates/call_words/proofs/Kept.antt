@@ -9,9 +9,9 @@ use lib.ListN.{length, drop, length-append, length-drop}
 use lib.Seq.{drop-at}
 use borrow.Author.Tests.{le-ltb}
 use Rattle.table.specs.declared.Table.{Table}
-use Rattle.table.specs.Words.{tableLength, tableFrom, wordsOf, withTable}
 use Rattle.table.proofs.Soundness.{Arrays}
-use Rattle.table.proofs.Lent.{stored-lent}
+use Rattle.table_words.specs.Words.{tableLength, tableFrom, wordsOf, withTable}
+use Rattle.table_words.proofs.Lent.{stored-lent}
 use Rattle.upkeep.specs.Upkeep.{withServer, withWeight, withEntry}
 use Rattle.upkeep.proofs.Upkeep.{withServer-arrays, withWeight-arrays, withEntry-arrays}
 use Rattle.replies.proofs.Refusals.{settle-either}

@@ -6,7 +6,7 @@ use mathlib.Core.List.{List, _++_}
 use lib.ListN.{length, take, drop}
 use lib.Dec.{leb}
 use Rattle.limits.specs.Limits.{maxServers}
-use Rattle.table.specs.Words.{tableLength, tableFrom, withTable}
+use Rattle.table_words.specs.Words.{tableLength, tableFrom, withTable}
 use Rattle.encoding.specs.Encoding.{callLength, replyLength, withReplyAt}
 use Rattle.encoding.specs.ByNumber.{callAt, tooShort, replyTo, nextBy}
 use Rattle.history.specs.Machine.{State}

@@ -5,7 +5,7 @@ ghost use Prim.Native.Nat.{_<_, _≤_};
 ghost use lib.ListN.{length};
 ghost use Rattle.limits.specs.Limits.{maxServers, maxCapacity};
 ghost use Rattle.lists.specs.Below.{nth};
-ghost use Rattle.table.specs.Words.{usedOffset, tableLength, columnFrom, withTable};
+ghost use Rattle.table_words.specs.Words.{usedOffset, tableLength, columnFrom, withTable};
 ghost use Rattle.replies.specs.Number.{addServerNumber, reweightNumber, writeNumber};
 ghost use Rattle.encoding.specs.ByNumber.{callOf, replyTo, nextBy, usedAfter};
 ghost use Rattle.call_words.specs.CallWords.{lent, afterCall, withColumn};
@@ -16,15 +16,15 @@ use encoding::REPLY_LENGTH;
 use encoding::SUBJECT_OFFSET;
 use replies::Reply;
 use replies::WRITE;
-use table::CAPACITY_OFFSET;
-use table::COUNT_OFFSET;
 use table::Columns;
-use table::DENOMINATORS_OFFSET;
-use table::NUMERATORS_OFFSET;
 use table::Shape;
-use table::TABLE_LENGTH;
-use table::USED_OFFSET;
-use table::WEIGHTS_OFFSET;
+use table_words::CAPACITY_OFFSET;
+use table_words::COUNT_OFFSET;
+use table_words::DENOMINATORS_OFFSET;
+use table_words::NUMERATORS_OFFSET;
+use table_words::TABLE_LENGTH;
+use table_words::USED_OFFSET;
+use table_words::WEIGHTS_OFFSET;
 
 // Runs a call but add_server and reweight. `count` then makes the table after it.
 fn run_on(words: &[u32], medium: &mut [u32], number: u32, subject: u32, amount: u32) -> Reply
@@ -63,8 +63,14 @@ pub fn run(table: &mut [u32], medium: &mut [u32], number: u32, subject: u32, amo
     ensures medium { λ _. ⌜ now (medium .exit) ≡ nextBy (lent (now (table .entry)) (now (medium .entry))) (callOf number subject amount) .medium ⌝ }
 {
     if number < WRITE {
-        let ran = encoding::run_change(table::table_from(table), medium, number, subject, amount);
-        table::store_table(table, ran.table);
+        let ran = encoding::run_change(
+            table_words::table_from(table),
+            medium,
+            number,
+            subject,
+            amount,
+        );
+        table_words::store_table(table, ran.table);
         return ran.reply;
     }
     let reply = run_on(table, medium, number, subject, amount);

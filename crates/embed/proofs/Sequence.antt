@@ -13,8 +13,8 @@ use borrow.Author.Tests.{le-leb}
 use Rattle.lists.proofs.Tests.{byBool}
 use Rattle.medium.specs.Word.{blank}
 use Rattle.table.specs.declared.Table.{Table}
-use Rattle.table.specs.Words.{tableLength, tableFrom, withTable}
-use Rattle.table.proofs.Lent.{stored-lent}
+use Rattle.table_words.specs.Words.{tableLength, tableFrom, withTable}
+use Rattle.table_words.proofs.Lent.{stored-lent}
 use Rattle.servers.specs.Servers.{startTable}
 use Rattle.history.specs.Call.{Call}
 use Rattle.history.specs.Machine.{State, after, begin}

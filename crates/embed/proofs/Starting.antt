@@ -6,7 +6,7 @@ use mathlib.Core.List.{List}
 use lib.ListN.{length}
 use borrow.Author.Tests.{le-leb, lt-leb, lt-ltb}
 use Rattle.table.specs.declared.Table.{Table}
-use Rattle.table.specs.Words.{tableLength, withTable}
+use Rattle.table_words.specs.Words.{tableLength, withTable}
 use Rattle.replies.specs.declared.Reply.{Reply}
 use Rattle.servers.specs.Servers.{startReply, startTable}
 use Rattle.encoding.specs.ByNumber.{tooShort}

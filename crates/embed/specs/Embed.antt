@@ -4,7 +4,7 @@ use mathlib.Core.Bool.{cond}
 use mathlib.Core.List.{List}
 use lib.ListN.{length}
 use lib.Dec.{leb}
-use Rattle.table.specs.Words.{tableLength}
+use Rattle.table_words.specs.Words.{tableLength}
 use Rattle.servers.specs.Servers.{startReply}
 use Rattle.encoding.specs.ByNumber.{tooShort}
 

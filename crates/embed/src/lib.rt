@@ -5,7 +5,7 @@ ghost use lib.ListN.{length};
 ghost use Rattle.lists.specs.Below.{nth, setBelow};
 ghost use Rattle.placement.specs.Rule.{writeServer};
 ghost use Rattle.picks.specs.Picks.{picksOf};
-ghost use Rattle.table.specs.Words.{tableLength, withTable};
+ghost use Rattle.table_words.specs.Words.{tableLength, withTable};
 ghost use Rattle.servers.specs.Servers.{startTable};
 ghost use Rattle.history.specs.Machine.{after};
 ghost use Rattle.replay.specs.Replay.{callsBelow, withReplies, runs, startState, replyAt, LedgerWords};
@@ -28,7 +28,7 @@ pub extern "C" fn archive_abi() -> u32
 pub extern "C" fn archive_table_words() -> usize
     ensures { λ r. ⌜ r ≡ tableLength ⌝ }
 {
-    table::TABLE_LENGTH
+    table_words::TABLE_LENGTH
 }
 
 // Stores a table of no server, or of all zeros where the capacity is refused.
@@ -37,13 +37,13 @@ pub extern "C" fn archive_start(capacity: u32, table: &mut [u32]) -> u32
     ensures number { λ r. ⌜ r ≡ startNumber capacity (now (table .entry)) ⌝ }
     ensures table { λ _. ⌜ now (table .exit) ≡ withTable (now (table .entry)) (startTable capacity) ⌝ }
 {
-    if table.len() < table::TABLE_LENGTH {
+    if table.len() < table_words::TABLE_LENGTH {
         return encoding::TOO_SHORT;
     }
     let begun = servers::start(capacity);
     let answer = begun.answer;
     let reply = replies::start_reply(answer);
-    table::store_table(table, begun.table);
+    table_words::store_table(table, begun.table);
     reply.refusal
 }
 

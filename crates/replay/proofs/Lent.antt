@@ -5,7 +5,7 @@ use mathlib.Core.Path.{_≡_, refl, _∙_}
 use mathlib.Core.List.{List}
 use lib.ListN.{length}
 use borrow.Author.Tests.{lt-ltb, le-ltb}
-use Rattle.table.specs.Words.{tableLength, withTable}
+use Rattle.table_words.specs.Words.{tableLength, withTable}
 use Rattle.history.specs.Machine.{after}
 use Rattle.encoding.specs.Encoding.{roomFor}
 use Rattle.call_words.specs.CallWords.{lent}

@@ -15,9 +15,9 @@ use Rattle.lists.proofs.Tests.{byBool}
 use Rattle.lists.proofs.Below.{replicate-all}
 use Rattle.medium.specs.Word.{blank}
 use Rattle.table.specs.declared.Table.{Table}
-use Rattle.table.specs.Words.{tableLength, tableFrom, withTable}
 use Rattle.table.proofs.Soundness.{Arrays, empty-arrays}
-use Rattle.table.proofs.Lent.{stored-lent}
+use Rattle.table_words.specs.Words.{tableLength, tableFrom, withTable}
+use Rattle.table_words.proofs.Lent.{stored-lent}
 use Rattle.replies.specs.Refusal.{firstOf}
 use Rattle.replies.specs.declared.Refusal.{Refusal}
 use Rattle.replies.specs.declared.Check.{Check}

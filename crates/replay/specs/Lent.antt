@@ -4,7 +4,7 @@ use mathlib.Core.Bool.{cond}
 use mathlib.Core.List.{List}
 use lib.ListN.{length}
 use lib.Dec.{ltb}
-use Rattle.table.specs.Words.{tableLength}
+use Rattle.table_words.specs.Words.{tableLength}
 use Rattle.encoding.specs.Encoding.{roomFor}
 
 -- how many calls are run on it: none where there are too few words for a table

@@ -3,7 +3,7 @@
 ghost use mathlib.Core.Path.{_≡_};
 ghost use Prim.Native.Nat.{_≤_, _*_};
 ghost use lib.ListN.{length};
-ghost use Rattle.table.specs.Words.{tableLength, withTable};
+ghost use Rattle.table_words.specs.Words.{tableLength, withTable};
 ghost use Rattle.history.specs.Machine.{after};
 ghost use Rattle.encoding.specs.Encoding.{callLength, replyLength};
 ghost use Rattle.call_words.specs.CallWords.{lent};
@@ -14,7 +14,7 @@ use encoding::CALL_LENGTH;
 use encoding::NUMBER_OFFSET;
 use encoding::SUBJECT_OFFSET;
 use replies::Check;
-use table::TABLE_LENGTH;
+use table_words::TABLE_LENGTH;
 
 // Runs the first `n` encoded calls on a table lent as words. A call and its reply have as many words, so both begin at the same
 // word.
@@ -40,8 +40,8 @@ fn run_calls(table: &mut [u32], calls: &[u32], medium: &mut [u32], replies: &mut
     }
 }
 
-// The words of a table that is to be started.
-fn table_words() -> [u32; TABLE_LENGTH]
+// The words of a table that is to be started, all zeros.
+fn zero_words() -> [u32; TABLE_LENGTH]
     ensures { λ r. ⌜ tableLength ≡ length r ⌝ }
 {
     [0; TABLE_LENGTH]
@@ -60,8 +60,8 @@ pub fn replay(capacity: u32, calls: &[u32], medium: &mut [u32], replies: &mut [u
         return 0;
     }
     let n = encoding::room(calls.len(), replies.len());
-    let mut words = table_words();
-    table::store_table(&mut words, begun.table);
+    let mut words = zero_words();
+    table_words::store_table(&mut words, begun.table);
     run_calls(&mut words, calls, medium, replies, n);
     n
 }

@@ -1,6 +1,4 @@
-// The table of servers, by value: an empty one, whether one is sound, and one lent as words.
-mod words;
-
+// The table of servers, by value: an empty one, and whether one is sound.
 ghost use mathlib.Core.Path.{_≡_};
 ghost use Rattle.placement.specs.Rule.{shareOf};
 ghost use Rattle.table.specs.Parts.{tableOf, Whole, empty};
@@ -10,15 +8,6 @@ use limits::MAX_CAPACITY;
 use limits::MAX_SERVERS;
 use limits::MAX_SUM;
 use placement::Fraction;
-pub use words::CAPACITY_OFFSET;
-pub use words::COUNT_OFFSET;
-pub use words::DENOMINATORS_OFFSET;
-pub use words::NUMERATORS_OFFSET;
-pub use words::TABLE_LENGTH;
-pub use words::USED_OFFSET;
-pub use words::WEIGHTS_OFFSET;
-pub use words::store_table;
-pub use words::table_from;
 
 // Document 01's table: capacity is its E, the entries of a server; count its count of fitted shelves; the four arrays
 // have for each server its weight, the entries used, and ReadP as a pair. Positions at or above the count mean nothing.

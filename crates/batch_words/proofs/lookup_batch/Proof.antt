@@ -6,7 +6,7 @@ use lib.ListN.{length}
 use borrow.Author.Needs.{needs}
 use borrow.Author.Tests.{not-true, not-false}
 use Rattle.table.specs.declared.Table.{Table}
-use Rattle.table.specs.Words.{tableFrom}
+use Rattle.table_words.specs.Words.{tableFrom}
 use Rattle.batch.specs.Batch.{batchReply}
 use Rattle.batch_words.proofs.Storing.{Fits, long-runs, few-ids, opened-small, mounts-small, length-order, batch-short, batch-refused, batch-done}
 use Rattle.batch_words.proofs.lookup_batch.Statement.{statement}

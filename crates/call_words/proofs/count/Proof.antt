@@ -1,7 +1,7 @@
 -- `call_words::count` meets its contract: the column of the entries used is a part of the words.
 use native.Mathlib.Omega.{arith}
 use borrow.Author.Needs.{needs}
-use Rattle.table.specs.Words.{usedOffset}
+use Rattle.table_words.specs.Words.{usedOffset}
 use Rattle.call_words.proofs.Columns.{length-column, column-stored}
 use Rattle.call_words.proofs.count.Statement.{statement}
 use Rattle.call_words.proofs.count.Tie as tie

@@ -1,7 +1,7 @@
 -- `call_words::run_on` meets its contract: the parts of the words are the columns of the table.
 use native.Mathlib.Omega.{arith}
 use borrow.Author.Needs.{needs}
-use Rattle.table.specs.Words.{tableFrom}
+use Rattle.table_words.specs.Words.{tableFrom}
 use Rattle.call_words.proofs.run_on.Statement.{statement}
 use Rattle.call_words.proofs.run_on.Tie as tie
 

@@ -3,7 +3,7 @@ use Prim.Native.Nat.{_≤_}
 use native.Mathlib.Omega.{arith}
 use lib.ListN.{length}
 use borrow.Author.Needs.{needs}
-use Rattle.table.specs.Words.{tableLength}
+use Rattle.table_words.specs.Words.{tableLength}
 use Rattle.replay.proofs.Replaying.{start-accepted, start-refused, start-count, started-words, refused-run, all-run}
 use Rattle.replay.proofs.replay.Statement.{statement}
 use Rattle.replay.proofs.replay.Tie as tie
@@ -12,7 +12,7 @@ use Rattle.replay.proofs.replay.Tie as tie
 abbrev S : tie.After-start → tie.Start
 S c = c .before .before .before .before
 
-abbrev B : tie.After-table-words → tie.After-start
+abbrev B : tie.After-zero-words → tie.After-start
 B c = c .before .before .before .before
 
 start-requires : tie.Need-start-requires
@@ -33,15 +33,15 @@ enum-told-2 c = search needs
 room-requires : tie.Need-room-requires
 room-requires c κs = search needs
 
-table-words-requires : tie.Need-table-words-requires
-table-words-requires c κs = search needs
+zero-words-requires : tie.Need-zero-words-requires
+zero-words-requires c κs = search needs
 
 slice-aggregate-store-table : tie.Need-slice-aggregate-store-table
 slice-aggregate-store-table c = search needs
 
 -- the words for a table are enough for one
-long : (c : tie.After-table-words) → tableLength ≤ length (c .table-words .result)
-long c = omega (arith, c .table-words .ensures)
+long : (c : tie.After-zero-words) → tableLength ≤ length (c .zero-words .result)
+long c = omega (arith, c .zero-words .ensures)
 
 store-table-requires : tie.Need-store-table-requires
 store-table-requires c κs =
@@ -83,7 +83,7 @@ replay-spec =
     returns
     enum-told-2
     room-requires
-    table-words-requires
+    zero-words-requires
     slice-aggregate-store-table
     store-table-requires
     slice-aggregate-run-calls

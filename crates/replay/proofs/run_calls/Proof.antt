@@ -4,7 +4,7 @@ use mathlib.Core.Path.{_≡_, ap}
 use native.Mathlib.Omega.{arith}
 use lib.ListN.{length}
 use borrow.Author.Needs.{needs}
-use Rattle.table.specs.Words.{tableLength}
+use Rattle.table_words.specs.Words.{tableLength}
 use Rattle.history.specs.Machine.{State}
 use Rattle.encoding.specs.Encoding.{callLength}
 use Rattle.encoding.proofs.Calling.{called-small}

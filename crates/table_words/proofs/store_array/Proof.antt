@@ -1,4 +1,4 @@
--- `table::words::store_array` meets its contract. The invariant: the words passed are stored.
+-- `table_words::store_array` meets its contract. The invariant: the words passed are stored.
 use Prim.Native.Nat.{_-_, _≤_}
 use mathlib.Core.Path.{_≡_, refl}
 use native.Mathlib.Numerals.{add-one}
@@ -6,8 +6,8 @@ use native.Mathlib.Omega.{arith}
 use lib.ListN.{length, length-set}
 use lib.Seq.{paste, paste-zero, paste-suc}
 use borrow.Author.Needs.{needs}
-use Rattle.table.proofs.words.store_array.Statement.{statement}
-use Rattle.table.proofs.words.store_array.Tie as tie
+use Rattle.table_words.proofs.store_array.Statement.{statement}
+use Rattle.table_words.proofs.store_array.Tie as tie
 
 abbrev Inv-loop : tie.InvT-loop
 Inv-loop words₀ from array k₀ words k = (k ≤ 256) × (words ≡ paste words₀ from array k) × (length words ≡ length words₀)

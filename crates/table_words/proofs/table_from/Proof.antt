@@ -1,9 +1,9 @@
--- `table::words::table_from` meets its contract: two words and four arrays.
+-- `table_words::table_from` meets its contract: two words and four arrays.
 use native.Mathlib.Omega.{arith}
 use borrow.Author.Needs.{needs}
-use Rattle.table.proofs.Lent.{read-table}
-use Rattle.table.proofs.words.table_from.Statement.{statement}
-use Rattle.table.proofs.words.table_from.Tie as tie
+use Rattle.table_words.proofs.Lent.{read-table}
+use Rattle.table_words.proofs.table_from.Statement.{statement}
+use Rattle.table_words.proofs.table_from.Tie as tie
 
 shared-slice-read-t3 : tie.Need-shared-slice-read-t3
 shared-slice-read-t3 c = search needs

@@ -4,10 +4,10 @@ ghost use Prim.Native.Nat.{_<_, _≤_, _+_};
 ghost use lib.ListN.{length};
 ghost use lib.Seq.{paste};
 ghost use Rattle.limits.specs.Limits.{maxServers};
-ghost use Rattle.table.specs.Words.{tableLength, tableFrom, withTable};
-use crate::Table;
+ghost use Rattle.table_words.specs.Words.{tableLength, tableFrom, withTable};
 use limits::Column;
 use limits::MAX_SERVERS;
+use table::Table;
 
 // How many words a table has, where each of its numbers stands and where each of its columns begins.
 pub const TABLE_LENGTH: usize = 1026;

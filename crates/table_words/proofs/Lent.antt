@@ -9,10 +9,10 @@ use lib.Seq.{take-all, take-at, drop-append-add, drop-drop, sets-eq, paste}
 use borrow.Author.Tests.{le-ltb}
 use Rattle.lists.specs.Below.{nth}
 use Rattle.lists.specs.Array.{arrayAt}
 use Rattle.table.specs.declared.Table.{Table}
 use Rattle.table.specs.Parts.{tableBy}
-use Rattle.table.specs.Words.{capacityOffset, countOffset, weightsOffset, usedOffset, numeratorsOffset, denominatorsOffset, tableLength, tableFrom, wordsOf, withTable}
 use Rattle.table.proofs.Soundness.{Arrays}
+use Rattle.table_words.specs.Words.{capacityOffset, countOffset, weightsOffset, usedOffset, numeratorsOffset, denominatorsOffset, tableLength, tableFrom, wordsOf, withTable}
 
 -- an array of 256 words has no zeros after them
 whole : (words : List ℕ) (from : ℕ) → arrayAt words from 256 ≡ take 256 (drop from words)

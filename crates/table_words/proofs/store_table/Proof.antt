@@ -1,12 +1,12 @@
--- `table::words::store_table` meets its contract: two words and four arrays.
+-- `table_words::store_table` meets its contract: two words and four arrays.
 use mathlib.Core.Path.{_≡_, _∙_}
 use native.Mathlib.Omega.{arith}
 use lib.ListN.{length, length-set}
 use borrow.Author.Needs.{needs}
 use Rattle.table.proofs.Soundness.{Arrays}
-use Rattle.table.proofs.Lent.{stored-table}
-use Rattle.table.proofs.words.store_table.Statement.{statement}
-use Rattle.table.proofs.words.store_table.Tie as tie
+use Rattle.table_words.proofs.Lent.{stored-table}
+use Rattle.table_words.proofs.store_table.Statement.{statement}
+use Rattle.table_words.proofs.store_table.Tie as tie
 
 -- the start, and the first three arrays
 abbrev S : tie.After-store-array → tie.Start
