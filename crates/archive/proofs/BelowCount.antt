@@ -44,8 +44,9 @@ use Rattle.deletion.proofs.Done.{deleted-some}
 use Rattle.planning.specs.WriteRows.{target, entryRows, writeRows}
 use Rattle.writing.specs.Writing.{writeMarks, writeBurns, writeReply, writeTable, writeMedium}
 use Rattle.planning.proofs.Passed.{target-is, write-accepted}
-use Rattle.servers.specs.Servers.{addServerRows, addServerReply, addServerTable, reweightRows, reweightReply, reweightTable}
-use Rattle.servers.proofs.Accepted.{addServer-accepted, reweight-accepted}
+use Rattle.server_rows.specs.ServerRows.{addServerRows, reweightRows}
+use Rattle.server_rows.proofs.Accepted.{addServer-accepted, reweight-accepted}
+use Rattle.servers.specs.Servers.{addServerReply, addServerTable, reweightReply, reweightTable}
 use Rattle.batch_answer.proofs.Orders.{batch-cong}
 use Rattle.batch.specs.Batch.{lookupOpens, openedAt, batchReply, batchRows}
 use Rattle.batch_answer.specs.Answer.{tooLong}

@@ -10,7 +10,7 @@ use Rattle.checks.specs.Ready.{readyRows}
 use Rattle.lookup.specs.Lookup.{lookupRows}
 use Rattle.deletion.specs.Deletion.{deleteRows}
 use Rattle.planning.specs.WriteRows.{entryRows, writeRows}
-use Rattle.servers.specs.Servers.{startRows, addServerRows, reweightRows}
+use Rattle.server_rows.specs.ServerRows.{startRows, addServerRows, reweightRows}
 use Rattle.batch.specs.Batch.{batchRows}
 
 pub start-rises : (capacity : ℕ) → rising 0 (startRows capacity) ≡ true

@@ -35,8 +35,9 @@ use Rattle.deletion.proofs.Done.{delete-ready}
 use Rattle.planning.specs.WriteRows.{target, writeRows}
 use Rattle.writing.specs.Writing.{writeMarks, writeReply}
 use Rattle.planning.proofs.Passed.{write-accepted}
-use Rattle.servers.specs.Servers.{addServerRows, addServerReply, reweightRows, reweightReply}
-use Rattle.servers.proofs.Accepted.{addServer-accepted, reweight-accepted}
+use Rattle.server_rows.specs.ServerRows.{addServerRows, reweightRows}
+use Rattle.server_rows.proofs.Accepted.{addServer-accepted, reweight-accepted}
+use Rattle.servers.specs.Servers.{addServerReply, reweightReply}
 
 pub record Small (r : Reply) : Type 0 where
   pub server : r .server < 4294967296

@@ -17,8 +17,9 @@ use Rattle.upkeep.proofs.Upkeep.{withServer-arrays, withWeight-arrays, withEntr
 use Rattle.replies.proofs.Refusals.{settle-either}
 use Rattle.planning.specs.WriteRows.{target, writeRows}
 use Rattle.writing.specs.Writing.{writeTable}
-use Rattle.servers.specs.Servers.{addServerRows, addServerTable, reweightRows, reweightTable}
-use Rattle.servers.proofs.Accepted.{addServer-accepted}
+use Rattle.server_rows.specs.ServerRows.{addServerRows, reweightRows}
+use Rattle.server_rows.proofs.Accepted.{addServer-accepted}
+use Rattle.servers.specs.Servers.{addServerTable, reweightTable}
 use Rattle.history.specs.Call.{Call, addServer, reweight, write, delete, lookup, batch}
 use Rattle.history.specs.Machine.{State, next}
 use Rattle.encoding.specs.ByNumber.{nextBy}

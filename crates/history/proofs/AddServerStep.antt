@@ -28,7 +28,8 @@ use Rattle.table.proofs.Soundness.{sound-facts}
 use Rattle.upkeep.proofs.KeptSound.{withServer-sound}
 use Rattle.replies.specs.Refusal.{firstOf}
 use Rattle.replies.proofs.Refusals.{passed, settle-yes, settle-no}
-use Rattle.servers.specs.Servers.{addServerRows, addServerReply, addServerTable}
+use Rattle.server_rows.specs.ServerRows.{addServerRows}
+use Rattle.servers.specs.Servers.{addServerReply, addServerTable}
 use Rattle.history.specs.Call.{addServer, compared}
 use Rattle.history.specs.Ledger.{Event, Ledger, told, usedBy, put, addServerRowsL, withServerL, enter}
 use Rattle.history.proofs.Tops.{top-wider}

@@ -32,7 +32,8 @@ use Rattle.lookup.specs.Lookup.{lookupRows, metReply, lookupReply}
 use Rattle.deletion.specs.Deletion.{isMet, deleteRows, deleteMarks, deleteReply, deleteMedium}
 use Rattle.planning.specs.WriteRows.{target, entryRows, writeRows}
 use Rattle.writing.specs.Writing.{writeMarks, writeBurns, writeReply, writeTable, writeMedium}
-use Rattle.servers.specs.Servers.{startRows, startTable, addServerRows, addServerReply, addServerTable, reweightRows, reweightReply, reweightTable}
+use Rattle.server_rows.specs.ServerRows.{startRows, addServerRows, reweightRows}
+use Rattle.servers.specs.Servers.{startTable, addServerReply, addServerTable, reweightReply, reweightTable}
 use Rattle.history.specs.Call.{Call, addServer, reweight, write, delete, lookup, compared}
 use Rattle.history.specs.Machine.{State, reply, next, after, replies, begin}
 use Rattle.history.specs.Example.{calls, expected, Example}

@@ -20,7 +20,7 @@ use Rattle.replies.proofs.Refusals.{settle-yes, settle-no}
 use Rattle.deletion.specs.Deletion.{deleteRows, deleteMarks, deleteMedium}
 use Rattle.planning.specs.WriteRows.{target, writeRows}
 use Rattle.writing.specs.Writing.{writeBurns, writeMedium}
-use Rattle.servers.specs.Servers.{startRows}
+use Rattle.server_rows.specs.ServerRows.{startRows}
 use Rattle.history.specs.Call.{Call, addServer, reweight, write, delete, lookup, batch}
 use Rattle.history.specs.Machine.{State, next, after, begin}
 use Rattle.history.specs.Ledger.{Event, wrote, removed, Ledger, Entered, enterBy, freshLedger, usedBy, addServerRowsL, withServerL, reweightRowsL, withWeightL, withEvent, writeRowsL, deleteRowsL, lookupRowsL, enter, ledgerAfter}

@@ -22,8 +22,9 @@ use Rattle.replies.proofs.Refusals.{settle-yes, settle-either}
 use Rattle.replies.proofs.Answers.{reply-done, reply-number}
 use Rattle.planning.specs.WriteRows.{target, writeRows}
 use Rattle.writing.specs.Writing.{writeTable}
-use Rattle.servers.specs.Servers.{startRows, addServerRows, addServerReply, addServerTable, reweightRows, reweightTable}
-use Rattle.servers.proofs.Accepted.{addServer-accepted}
+use Rattle.server_rows.specs.ServerRows.{startRows, addServerRows, reweightRows}
+use Rattle.server_rows.proofs.Accepted.{addServer-accepted}
+use Rattle.servers.specs.Servers.{addServerReply, addServerTable, reweightTable}
 use Rattle.history.specs.Call.{Call, addServer, reweight, write, delete, lookup, batch}
 use Rattle.history.specs.Machine.{State, reply, next, after, begin}
 use Rattle.history.specs.Ledger.{freshLedger}

@@ -23,7 +23,8 @@ use Rattle.table.proofs.Soundness.{sound-facts}
 use Rattle.upkeep.proofs.KeptSound.{withWeight-sound}
 use Rattle.replies.specs.Refusal.{firstOf}
 use Rattle.replies.proofs.Refusals.{passed, settle-yes, settle-no}
-use Rattle.servers.specs.Servers.{reweightRows, reweightReply, reweightTable}
+use Rattle.server_rows.specs.ServerRows.{reweightRows}
+use Rattle.servers.specs.Servers.{reweightReply, reweightTable}
 use Rattle.history.specs.Call.{reweight, compared}
 use Rattle.history.specs.Ledger.{Ledger, put, reweightRowsL, withWeightL, enter}
 use Rattle.history.proofs.Holds.{Holds}

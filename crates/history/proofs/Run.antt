@@ -15,7 +15,8 @@ use Rattle.table.specs.Parts.{empty}
 use Rattle.table.proofs.Soundness.{empty-arrays, empty-sound}
 use Rattle.replies.specs.Refusal.{firstOf}
 use Rattle.replies.proofs.Refusals.{passed, settle-yes}
-use Rattle.servers.specs.Servers.{startRows, startTable}
+use Rattle.server_rows.specs.ServerRows.{startRows}
+use Rattle.servers.specs.Servers.{startTable}
 use Rattle.batch_answer.specs.declared.Batch.{Batch}
 use Rattle.history.specs.Call.{Call, addServer, reweight, write, delete, lookup, batch, Compared, compared}
 use Rattle.history.specs.Machine.{State, inBrief, reply, next, after, replies, begin}

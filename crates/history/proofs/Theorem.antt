@@ -14,7 +14,7 @@ use Rattle.medium.proofs.Places.{entry-apart}
 use Rattle.replies.specs.Refusal.{firstOf}
 use Rattle.replies.specs.declared.Reply.{Reply}
 use Rattle.lookup.specs.Lookup.{lookupReply}
-use Rattle.servers.specs.Servers.{startRows}
+use Rattle.server_rows.specs.ServerRows.{startRows}
 use Rattle.history.specs.Call.{Call, Compared, compared}
 use Rattle.history.specs.Machine.{State, begin}
 use Rattle.history.specs.Ledger.{Event, wrote, Ledger, Version, freshLedger, usedBy, lastWriteOf, lastWriteReply}

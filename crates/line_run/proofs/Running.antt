@@ -17,7 +17,8 @@ use Rattle.table.specs.declared.Table.{Table}
 use Rattle.replies.specs.Refusal.{firstOf}
 use Rattle.replies.specs.declared.Reply.{Reply}
 use Rattle.replies.proofs.Refusals.{settle-yes, settle-no}
-use Rattle.servers.specs.Servers.{startRows, startReply, startTable}
+use Rattle.server_rows.specs.ServerRows.{startRows}
+use Rattle.servers.specs.Servers.{startReply, startTable}
 use Rattle.history.specs.Machine.{State}
 use Rattle.encoding.specs.ByNumber.{callOf, replyTo, nextBy}
 use Rattle.replay.proofs.Replaying.{start-number}

@@ -7,7 +7,8 @@ use lib.ListN.{length, replicate}
 use Rattle.medium.specs.Word.{blank}
 use Rattle.table.specs.declared.Table.{Table}
 use Rattle.replies.specs.Refusal.{settle}
-use Rattle.servers.specs.Servers.{startRows, startReply, startTable}
+use Rattle.server_rows.specs.ServerRows.{startRows}
+use Rattle.servers.specs.Servers.{startReply, startTable}
 use Rattle.history.specs.Machine.{State}
 use Rattle.encoding.specs.ByNumber.{callOf, replyTo, nextBy}
 use Rattle.letters.specs.Letter.{startLetter}

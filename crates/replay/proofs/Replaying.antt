@@ -26,7 +26,8 @@ use Rattle.replies.specs.declared.Reply.{Reply}
 use Rattle.replies.specs.Reply.{replyOfCheck}
 use Rattle.replies.proofs.Refusals.{settle-yes, settle-no, settle-either}
 use Rattle.replies.proofs.Answers.{number-not-zero, reply-number}
-use Rattle.servers.specs.Servers.{startRows, startReply, startTable}
+use Rattle.server_rows.specs.ServerRows.{startRows}
+use Rattle.servers.specs.Servers.{startReply, startTable}
 use Rattle.history.specs.Call.{Call, compared}
 use Rattle.history.specs.Machine.{State, after, begin}
 use Rattle.history.specs.Ledger.{freshLedger, ledgerAfter}

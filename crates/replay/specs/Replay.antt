@@ -8,7 +8,8 @@ use Rattle.lists.specs.Below.{nth}
 use Rattle.medium.specs.Word.{blank}
 use Rattle.replies.specs.Refusal.{settle}
 use Rattle.replies.specs.declared.Reply.{Reply}
-use Rattle.servers.specs.Servers.{startRows, startTable}
+use Rattle.server_rows.specs.ServerRows.{startRows}
+use Rattle.servers.specs.Servers.{startTable}
 use Rattle.history.specs.Call.{Call, Compared}
 use Rattle.history.specs.Machine.{State, after}
 use Rattle.history.specs.Ledger.{Ledger, freshLedger, told, enter, ledgerAfter}

@@ -1,6 +1,4 @@
 // Start, and the calls that change the servers: add_server, document 01's fit, and reweight, its weigh.
-mod rows;
-
 ghost use mathlib.Core.Path.{_≡_};
 ghost use Rattle.replies.specs.Reply.{replyOfCheck, replyOfServer};
 ghost use Rattle.servers.specs.Servers.{startReply, startTable, addServerReply, addServerTable, reweightReply, reweightTable};
@@ -27,7 +25,7 @@ pub fn start(capacity: u32) -> Started
     ensures reply { λ r. ⌜ replyOfCheck (r .answer) ≡ startReply capacity ⌝ }
     ensures table { λ r. ⌜ r .table ≡ startTable capacity ⌝ }
 {
-    let answer = rows::start(capacity);
+    let answer = server_rows::start(capacity);
     match answer {
         Check::Refused(_) => {
             let zeros = table::empty(0);
@@ -61,7 +59,7 @@ pub fn add_server(table: Table, medium: &[u32], weight: u32) -> Changed
         &table.numerators,
         &table.denominators,
     ];
-    let check = rows::add_server(shape, columns, medium, weight);
+    let check = server_rows::add_server(shape, columns, medium, weight);
     match check {
         Check::Refused(refusal) => Changed {
             answer: ServerAnswer::Refused(refusal),
@@ -93,7 +91,7 @@ pub fn reweight(table: Table, server: usize, weight: u32) -> Changed
         &table.numerators,
         &table.denominators,
     ];
-    let check = rows::reweight(shape, columns, server, weight);
+    let check = server_rows::reweight(shape, columns, server, weight);
     match check {
         Check::Refused(refusal) => Changed {
             answer: ServerAnswer::Refused(refusal),

@@ -9,7 +9,8 @@ use lib.Dec.{ltb, eqb}
 use Rattle.lists.proofs.Tests.{byBool}
 use Rattle.medium.specs.Word.{blank}
 use Rattle.replies.specs.Refusal.{firstOf, settle}
-use Rattle.servers.specs.Servers.{startRows, startTable}
+use Rattle.server_rows.specs.ServerRows.{startRows}
+use Rattle.servers.specs.Servers.{startTable}
 use Rattle.parsing.specs.declared.Line.{Line}
 use Rattle.parsing.specs.declared.Line.the-variants as line
 use Rattle.parsing.specs.Line.{lineOf}

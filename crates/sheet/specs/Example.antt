@@ -19,7 +19,8 @@ use Rattle.lookup.specs.Lookup.{lookupRows, metReply, lookupReply}
 use Rattle.deletion.specs.Deletion.{isMet, deleteRows, deleteMarks, deleteReply, deleteMedium}
 use Rattle.planning.specs.WriteRows.{target, entryRows, writeRows}
 use Rattle.writing.specs.Writing.{writeMarks, writeBurns, writeReply, writeTable, writeMedium}
-use Rattle.servers.specs.Servers.{startRows, startReply, startTable, addServerRows, addServerReply, addServerTable, reweightRows, reweightReply, reweightTable}
+use Rattle.server_rows.specs.ServerRows.{startRows, addServerRows, reweightRows}
+use Rattle.servers.specs.Servers.{startReply, startTable, addServerReply, addServerTable, reweightReply, reweightTable}
 use Rattle.history.specs.Machine.{reply, next}
 use Rattle.encoding.specs.ByNumber.{callOf, replyTo, nextBy}
 use Rattle.letters.specs.Letter.{letters, letterOf, numberFor}

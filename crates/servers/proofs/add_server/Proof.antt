@@ -7,8 +7,9 @@ use Rattle.replies.specs.Refusal.{Row, firstOf}
 use Rattle.replies.specs.Reply.{numberOf, replyOfServer}
 use Rattle.replies.proofs.Refusals.{settle-yes}
 use Rattle.replies.proofs.Answers.{check-refused, check-accepted, kept, reply-refused, reply-done}
-use Rattle.servers.specs.Servers.{addServerRows, addServerReply, addServerTable}
-use Rattle.servers.proofs.Accepted.{addServer-accepted}
+use Rattle.server_rows.specs.ServerRows.{addServerRows}
+use Rattle.server_rows.proofs.Accepted.{addServer-accepted}
+use Rattle.servers.specs.Servers.{addServerReply, addServerTable}
 use Rattle.servers.proofs.add_server.Statement.{statement}
 use Rattle.servers.proofs.add_server.Tie as tie
 

@@ -7,8 +7,9 @@ use Rattle.replies.specs.Refusal.{Row, firstOf}
 use Rattle.replies.specs.Reply.{numberOf, replyOfServer}
 use Rattle.replies.proofs.Refusals.{settle-yes}
 use Rattle.replies.proofs.Answers.{check-refused, check-accepted, kept, reply-refused, reply-done}
-use Rattle.servers.specs.Servers.{reweightRows, reweightReply, reweightTable}
-use Rattle.servers.proofs.Accepted.{reweight-accepted}
+use Rattle.server_rows.specs.ServerRows.{reweightRows}
+use Rattle.server_rows.proofs.Accepted.{reweight-accepted}
+use Rattle.servers.specs.Servers.{reweightReply, reweightTable}
 use Rattle.servers.proofs.reweight.Statement.{statement}
 use Rattle.servers.proofs.reweight.Tie as tie
 

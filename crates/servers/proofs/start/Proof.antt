@@ -5,7 +5,8 @@ use Rattle.replies.specs.Refusal.{firstOf}
 use Rattle.replies.specs.Reply.{numberOf}
 use Rattle.replies.proofs.Refusals.{settle-yes}
 use Rattle.replies.proofs.Answers.{check-refused, check-accepted, kept, check-reply}
-use Rattle.servers.specs.Servers.{startRows, startReply, startTable}
+use Rattle.server_rows.specs.ServerRows.{startRows}
+use Rattle.servers.specs.Servers.{startReply, startTable}
 use Rattle.servers.proofs.start.Statement.{statement}
 use Rattle.servers.proofs.start.Tie as tie
 

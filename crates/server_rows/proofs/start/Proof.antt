@@ -1,4 +1,4 @@
--- `servers::rows::start` meets its contract: a return for each side of the range.
+-- `server_rows::start` meets its contract: a return for each side of the range.
 use mathlib.Core.Path.{_≡_}
 use mathlib.Core.Bool.{false}
 use lib.Dec.{leb}
@@ -6,9 +6,9 @@ use borrow.Author.Tests.{le-leb, lt-leb}
 use Rattle.limits.specs.Limits.{maxCapacity}
 use Rattle.replies.specs.Refusal.{firstOf}
 use Rattle.replies.specs.Reply.{numberOf, checkNumber}
-use Rattle.servers.specs.Servers.{startRows}
-use Rattle.servers.proofs.rows.start.Statement.{statement}
-use Rattle.servers.proofs.rows.start.Tie as tie
+use Rattle.server_rows.specs.ServerRows.{startRows}
+use Rattle.server_rows.proofs.start.Statement.{statement}
+use Rattle.server_rows.proofs.start.Tie as tie
 
 returns : tie.Need-returns
 unfolding checkNumber numberOf startRows firstOf

@@ -4,7 +4,7 @@ ghost use mathlib.Core.Path.{_≡_};
 ghost use Rattle.table.specs.Parts.{tableOf, Whole};
 ghost use Rattle.replies.specs.Refusal.{firstOf};
 ghost use Rattle.replies.specs.Reply.{checkNumber};
-ghost use Rattle.servers.specs.Servers.{startRows, addServerRows, reweightRows};
+ghost use Rattle.server_rows.specs.ServerRows.{startRows, addServerRows, reweightRows};
 use limits::MAX_CAPACITY;
 use limits::MAX_SERVERS;
 use replies::Check;

@@ -1,4 +1,4 @@
--- `servers::rows::add_server` meets its contract: a return for each row, in order.
+-- `server_rows::add_server` meets its contract: a return for each row, in order.
 use Prim.Native.Nat.{ℕ, suc, _*_, _≤_}
 use mathlib.Core.Bool.{true, false}
 use mathlib.Core.Path.{_≡_, sym, _∙_, ap}
@@ -15,9 +15,9 @@ use Rattle.table.specs.Sound.{sound}
 use Rattle.table.proofs.Soundness.{Sound, sound-facts}
 use Rattle.replies.specs.Refusal.{firstOf}
 use Rattle.replies.specs.Reply.{numberOf, checkNumber}
-use Rattle.servers.specs.Servers.{addServerRows}
-use Rattle.servers.proofs.rows.add_server.Statement.{statement}
-use Rattle.servers.proofs.rows.add_server.Tie as tie
+use Rattle.server_rows.specs.ServerRows.{addServerRows}
+use Rattle.server_rows.proofs.add_server.Statement.{statement}
+use Rattle.server_rows.proofs.add_server.Tie as tie
 
 -- the table that is tested
 abbrev T : tie.After-is-sound → Table

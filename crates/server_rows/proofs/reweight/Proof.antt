@@ -1,4 +1,4 @@
--- `servers::rows::reweight` meets its contract: a return for each row, in order.
+-- `server_rows::reweight` meets its contract: a return for each row, in order.
 use mathlib.Core.Bool.{true, false}
 use mathlib.Core.Path.{_≡_, sym, _∙_}
 use borrow.Author.Needs.{needs}
@@ -9,9 +9,9 @@ use Rattle.table.specs.Sound.{sound}
 use Rattle.table.proofs.Soundness.{Sound, sound-facts}
 use Rattle.replies.specs.Refusal.{firstOf}
 use Rattle.replies.specs.Reply.{numberOf, checkNumber}
-use Rattle.servers.specs.Servers.{reweightRows}
-use Rattle.servers.proofs.rows.reweight.Statement.{statement}
-use Rattle.servers.proofs.rows.reweight.Tie as tie
+use Rattle.server_rows.specs.ServerRows.{reweightRows}
+use Rattle.server_rows.proofs.reweight.Statement.{statement}
+use Rattle.server_rows.proofs.reweight.Tie as tie
 
 -- the table that is tested
 abbrev T : tie.After-is-sound → Table

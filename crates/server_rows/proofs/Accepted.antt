@@ -12,7 +12,7 @@ use Rattle.table.specs.Sound.{sound}
 use Rattle.table.proofs.Soundness.{sound-facts}
 use Rattle.replies.specs.Refusal.{firstOf}
 use Rattle.replies.proofs.Refusals.{passed}
-use Rattle.servers.specs.Servers.{addServerRows, reweightRows}
+use Rattle.server_rows.specs.ServerRows.{addServerRows, reweightRows}
 
 pub record ServerAccepted (t : Table) (weight : ℕ) : Type 0 where
   pub isSound : sound t ≡ true
