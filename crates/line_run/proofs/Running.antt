@@ -19,7 +19,7 @@ use Rattle.replies.specs.declared.Reply.{Reply}
 use Rattle.replies.proofs.Refusals.{settle-yes, settle-no}
 use Rattle.servers.specs.Servers.{startRows, startReply, startTable}
 use Rattle.history.specs.Machine.{State}
-use Rattle.encoding.specs.ByNumber.{callOf, replyTo, nextBy}
+use Rattle.dispatch.specs.ByNumber.{callOf, replyTo, nextBy}
 use Rattle.replay.proofs.Replaying.{start-number}
 use Rattle.parsing.specs.declared.Line.{Line}
 use Rattle.parsing.specs.declared.Line.the-variants as line

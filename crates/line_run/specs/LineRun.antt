@@ -9,7 +9,7 @@ use Rattle.table.specs.declared.Table.{Table}
 use Rattle.replies.specs.Refusal.{settle}
 use Rattle.servers.specs.Servers.{startRows, startReply, startTable}
 use Rattle.history.specs.Machine.{State}
-use Rattle.encoding.specs.ByNumber.{callOf, replyTo, nextBy}
+use Rattle.dispatch.specs.ByNumber.{callOf, replyTo, nextBy}
 use Rattle.letters.specs.Letter.{startLetter}
 use Rattle.parsing.specs.declared.Line.{Line}
 use Rattle.parsing.specs.declared.Line.the-variants as line

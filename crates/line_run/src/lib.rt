@@ -96,7 +96,7 @@ fn run_call(
         return ask(in_use, out, at);
     }
     let table = in_use.table;
-    let ran = encoding::run_call(table, medium, number, subject, amount);
+    let ran = dispatch::run_call(table, medium, number, subject, amount);
     let next = printing::put_reply(out, at, number, ran.reply);
     let after = ran.table;
     AfterLine {

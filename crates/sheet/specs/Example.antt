@@ -21,7 +21,7 @@ use Rattle.planning.specs.WriteRows.{target, entryRows, writeRows}
 use Rattle.writing.specs.Writing.{writeMarks, writeBurns, writeReply, writeTable, writeMedium}
 use Rattle.servers.specs.Servers.{startRows, startReply, startTable, addServerRows, addServerReply, addServerTable, reweightRows, reweightReply, reweightTable}
 use Rattle.history.specs.Machine.{reply, next}
-use Rattle.encoding.specs.ByNumber.{callOf, replyTo, nextBy}
+use Rattle.dispatch.specs.ByNumber.{callOf, replyTo, nextBy}
 use Rattle.letters.specs.Letter.{letters, letterOf, numberFor}
 use Rattle.parsing.specs.Line.{isDigit, digitRun, valueOf, numberAt, spaced, lineBy, hasTwo, last, first, lineOf}
 use Rattle.printing.specs.Print.{digits, decimal, printed, question, answered}

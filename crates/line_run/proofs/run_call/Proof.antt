@@ -2,7 +2,7 @@
 use mathlib.Core.Path.{refl}
 use borrow.Author.Needs.{needs}
 use borrow.Author.Tests.{not-true, not-false}
-use Rattle.encoding.proofs.Calling.{called-small}
+use Rattle.dispatch.proofs.Calling.{called-small}
 use Rattle.line_run.specs.LineRun.{sheetOf}
 use Rattle.line_run.proofs.Running.{shown, asked, too-early, call-run}
 use Rattle.line_run.proofs.run_call.Statement.{statement}

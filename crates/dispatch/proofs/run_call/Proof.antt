@@ -1,12 +1,12 @@
--- `encoding::run_call` meets its contract: add_server and reweight by value, every other call on the borrowed columns.
+-- `dispatch::run_call` meets its contract: add_server and reweight by value, every other call on the borrowed columns.
 use mathlib.Core.Logic.{_≢_}
 use native.Mathlib.Omega.{arith}
 use borrow.Author.Needs.{needs}
 use Rattle.replies.specs.Number.{addServerNumber, reweightNumber}
 use Rattle.history.specs.Machine.{State}
-use Rattle.encoding.proofs.Calling.{counts, called-in}
-use Rattle.encoding.proofs.run_call.Statement.{statement}
-use Rattle.encoding.proofs.run_call.Tie as tie
+use Rattle.dispatch.proofs.Calling.{counts, called-in}
+use Rattle.dispatch.proofs.run_call.Statement.{statement}
+use Rattle.dispatch.proofs.run_call.Tie as tie
 
 -- the branch of the calls on borrowed columns, its start, and the state there
 abbrev E : tie.After-run-in → tie.Else1

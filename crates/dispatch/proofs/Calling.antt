@@ -21,7 +21,7 @@ use Rattle.writing.proofs.Accepted.{WrittenTo, written-to, table-kept}
 use Rattle.archive.proofs.Small.{Small, addServer-small, reweight-small, write-small, delete-small, lookup-small}
 use Rattle.history.specs.Call.{Call, addServer, reweight, write, delete, lookup, batch}
 use Rattle.history.specs.Machine.{State, reply, next}
-use Rattle.encoding.specs.ByNumber.{callOf, replyTo, nextBy, usedAfter}
+use Rattle.dispatch.specs.ByNumber.{callOf, replyTo, nextBy, usedAfter}
 
 -- the reply, the table and the medium of one call
 abbrev pub Called : State → Option Call → Reply → Table → List ℕ → Type 0
