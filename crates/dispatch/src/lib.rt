@@ -1,4 +1,4 @@
-// One call, run by its number: on a table whose columns are borrowed, and on a table by value.
+// One call, run by its number: add_server and reweight on a table by value, every other call on borrowed columns.
 ghost use mathlib.Core.Path.{_≡_};
 ghost use mathlib.Core.Logic.{_≢_};
 ghost use Prim.Native.Nat.{_<_};
@@ -9,7 +9,6 @@ ghost use Rattle.table.specs.Parts.{tableOf, Whole};
 ghost use Rattle.replies.specs.Number.{addServerNumber, reweightNumber, writeNumber};
 ghost use Rattle.replies.specs.Reply.{refused, replyOfServer};
 ghost use Rattle.dispatch.specs.ByNumber.{callOf, noCall, replyTo, nextBy, usedAfter};
-use limits::Column;
 use replies::ADD_SERVER;
 use replies::DELETE;
 use replies::LOOKUP;
@@ -102,37 +101,4 @@ pub fn run_change(table: Table, medium: &mut [u32], number: u32, subject: u32, a
             table,
         },
     }
-}
-
-// Counts the entry of an accepted write in the column of a table by value. A field that is an array can be lent as an array alone.
-fn count_in(used: &mut Column, number: u32, reply: Reply)
-    requires { ⌜ (number ≡ writeNumber → reply .refusal ≡ 0 → (reply .server < length (now used)) × (nth (now used) (reply .server) < maxCapacity)) ⌝ }
-    ensures { λ _. ⌜ now (used .exit) ≡ usedAfter (now (used .entry)) number reply ⌝ }
-{
-    count_write(used, number, reply);
-}
-
-// Runs a call by its number on a table by value.
-pub fn run_call(table: Table, medium: &mut [u32], number: u32, subject: u32, amount: u32) -> Ran
-    ensures reply { λ r. ⌜ r .reply ≡ replyTo (record { table = table; medium = now (medium .entry) }) (callOf number subject amount) ⌝ }
-    ensures table { λ r. ⌜ r .table ≡ nextBy (record { table = table; medium = now (medium .entry) }) (callOf number subject amount) .table ⌝ }
-    ensures medium { λ _. ⌜ now (medium .exit) ≡ nextBy (record { table = table; medium = now (medium .entry) }) (callOf number subject amount) .medium ⌝ }
-{
-    if number < WRITE {
-        return run_change(table, medium, number, subject, amount);
-    }
-    let shape = Shape {
-        capacity: table.capacity,
-        count: table.count,
-    };
-    let columns: Columns = [
-        &table.weights,
-        &table.used,
-        &table.numerators,
-        &table.denominators,
-    ];
-    let reply = run_in(shape, columns, medium, number, subject, amount);
-    let mut next = table;
-    count_in(&mut next.used, number, reply);
-    Ran { reply, table: next }
 }

@@ -1,15 +1,25 @@
 // Running one line. Its answer goes to the lent buffer, from a position on.
 ghost use mathlib.Core.Path.{_≡_};
-ghost use Prim.Native.Nat.{_+_, _≤_};
+ghost use Prim.Native.Nat.{_+_, _<_, _≤_};
 ghost use lib.ListN.{length, replicate};
 ghost use lib.Seq.{sets};
+ghost use Rattle.limits.specs.Limits.{maxCapacity};
+ghost use Rattle.lists.specs.Below.{nth};
 ghost use Rattle.medium.specs.Word.{blank};
+ghost use Rattle.replies.specs.Number.{writeNumber};
+ghost use Rattle.dispatch.specs.ByNumber.{callOf, replyTo, nextBy, usedAfter};
 ghost use Rattle.parsing.specs.declared.Line.the-variants as line;
 ghost use Rattle.parsing.specs.Line.{lineOf};
 ghost use Rattle.printing.specs.Print.{longestLine, question};
 ghost use Rattle.line_run.specs.LineRun.{sheetOf, lineRun};
+use dispatch::Ran;
+use limits::Column;
 use parsing::Line;
 use parsing::Parsed;
+use replies::Reply;
+use replies::WRITE;
+use table::Columns;
+use table::Shape;
 use table::Table;
 
 // The table in use, once a start was accepted; before that the table counts for nothing.
@@ -77,6 +87,39 @@ fn run_start(
     }
 }
 
+// Counts the entry of an accepted write in the column of a table by value. A field that is an array can be lent as an array alone.
+fn count_in(used: &mut Column, number: u32, reply: Reply)
+    requires { ⌜ (number ≡ writeNumber → reply .refusal ≡ 0 → (reply .server < length (now used)) × (nth (now used) (reply .server) < maxCapacity)) ⌝ }
+    ensures { λ _. ⌜ now (used .exit) ≡ usedAfter (now (used .entry)) number reply ⌝ }
+{
+    dispatch::count_write(used, number, reply);
+}
+
+// Runs a call by its number on a table by value.
+fn run_by_value(table: Table, medium: &mut [u32], number: u32, subject: u32, amount: u32) -> Ran
+    ensures reply { λ r. ⌜ r .reply ≡ replyTo (record { table = table; medium = now (medium .entry) }) (callOf number subject amount) ⌝ }
+    ensures table { λ r. ⌜ r .table ≡ nextBy (record { table = table; medium = now (medium .entry) }) (callOf number subject amount) .table ⌝ }
+    ensures medium { λ _. ⌜ now (medium .exit) ≡ nextBy (record { table = table; medium = now (medium .entry) }) (callOf number subject amount) .medium ⌝ }
+{
+    if number < WRITE {
+        return dispatch::run_change(table, medium, number, subject, amount);
+    }
+    let shape = Shape {
+        capacity: table.capacity,
+        count: table.count,
+    };
+    let columns: Columns = [
+        &table.weights,
+        &table.used,
+        &table.numerators,
+        &table.denominators,
+    ];
+    let reply = dispatch::run_in(shape, columns, medium, number, subject, amount);
+    let mut next = table;
+    count_in(&mut next.used, number, reply);
+    Ran { reply, table: next }
+}
+
 // Runs a call by its number; before the first accepted S it is not run.
 fn run_call(
     in_use: InUse,
@@ -96,7 +139,7 @@ fn run_call(
         return ask(in_use, out, at);
     }
     let table = in_use.table;
-    let ran = dispatch::run_call(table, medium, number, subject, amount);
+    let ran = run_by_value(table, medium, number, subject, amount);
     let next = printing::put_reply(out, at, number, ran.reply);
     let after = ran.table;
     AfterLine {
