@@ -1,49 +1,28 @@
 // Running one line. Its answer goes to the lent buffer, from a position on.
 ghost use mathlib.Core.Path.{_≡_};
 ghost use Prim.Native.Nat.{_+_, _<_, _≤_};
-ghost use lib.ListN.{length, replicate};
+ghost use lib.ListN.{length};
 ghost use lib.Seq.{sets};
 ghost use Rattle.limits.specs.Limits.{maxCapacity};
 ghost use Rattle.lists.specs.Below.{nth};
-ghost use Rattle.medium.specs.Word.{blank};
 ghost use Rattle.replies.specs.Number.{writeNumber};
 ghost use Rattle.dispatch.specs.ByNumber.{callOf, replyTo, nextBy, usedAfter};
 ghost use Rattle.parsing.specs.declared.Line.the-variants as line;
 ghost use Rattle.parsing.specs.Line.{lineOf};
 ghost use Rattle.printing.specs.Print.{longestLine, question};
-ghost use Rattle.line_run.specs.LineRun.{sheetOf, lineRun};
+ghost use Rattle.sheet_start.specs.SheetStart.{sheetOf};
+ghost use Rattle.line_run.specs.LineRun.{lineRun};
 use dispatch::Ran;
 use limits::Column;
 use parsing::Line;
 use parsing::Parsed;
 use replies::Reply;
 use replies::WRITE;
+use sheet_start::AfterLine;
+use sheet_start::InUse;
 use table::Columns;
 use table::Shape;
 use table::Table;
-
-// The table in use, once a start was accepted; before that the table counts for nothing.
-pub struct InUse {
-    pub started: bool,
-    pub table: Table,
-}
-
-// The position after what a line printed, and the table in use after it.
-pub struct AfterLine {
-    pub next: usize,
-    pub in_use: InUse,
-}
-
-// Makes every word blank.
-fn blank_all(words: &mut [u32])
-    ensures { λ _. ⌜ now (words .exit) ≡ replicate (length (now (words .entry))) blank ⌝ }
-{
-    let mut i: usize = 0;
-    while i < words.len() {
-        words[i] = medium::BLANK;
-        i += 1;
-    }
-}
 
 // Prints the question mark of a line that can't be read, or comes before the first accepted S.
 fn ask(in_use: InUse, out: &mut [u8], at: usize) -> AfterLine
@@ -54,37 +33,6 @@ fn ask(in_use: InUse, out: &mut [u8], at: usize) -> AfterLine
 {
     let next = printing::put_question(out, at);
     AfterLine { next, in_use }
-}
-
-// Runs a start. One that is refused keeps the table in use.
-fn run_start(
-    in_use: InUse,
-    medium: &mut [u32],
-    capacity: u32,
-    out: &mut [u8],
-    at: usize,
-) -> AfterLine
-    requires { ⌜ at + longestLine ≤ length (now out) ⌝ }
-    ensures next { λ r. ⌜ r .next ≡ at + length (lineRun (sheetOf in_use (now (medium .entry))) (line.Start capacity) .bytes) ⌝ }
-    ensures bytes { λ _. ⌜ now (out .exit) ≡ sets (now (out .entry)) at (lineRun (sheetOf in_use (now (medium .entry))) (line.Start capacity) .bytes) ⌝ }
-    ensures sheet { λ r. ⌜ sheetOf (r .in_use) (now (medium .exit)) ≡ lineRun (sheetOf in_use (now (medium .entry))) (line.Start capacity) .sheet ⌝ }
-{
-    let begun = servers::start(capacity);
-    let answer = begun.answer;
-    let reply = replies::start_reply(answer);
-    let next = printing::put_answer(out, at, letters::START, reply.refusal, 0, 0);
-    if reply.refusal != 0 {
-        return AfterLine { next, in_use };
-    }
-    blank_all(medium);
-    let table = begun.table;
-    AfterLine {
-        next,
-        in_use: InUse {
-            started: true,
-            table,
-        },
-    }
 }
 
 // Counts the entry of an accepted write in the column of a table by value. A field that is an array can be lent as an array alone.
@@ -159,7 +107,7 @@ fn run_read(in_use: InUse, medium: &mut [u32], line: Line, out: &mut [u8], at: u
     ensures sheet { λ r. ⌜ sheetOf (r .in_use) (now (medium .exit)) ≡ lineRun (sheetOf in_use (now (medium .entry))) line .sheet ⌝ }
 {
     match line {
-        Line::Start(capacity) => run_start(in_use, medium, capacity, out, at),
+        Line::Start(capacity) => sheet_start::run_start(in_use, medium, capacity, out, at),
         Line::Call(number, subject, amount) => run_call(
             in_use,
             medium,

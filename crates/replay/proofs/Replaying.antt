@@ -94,7 +94,7 @@ ledger-words capacity z m calls words n fits = record {
 }
 
 -- whether start accepted, by its answer
-pub start-number : (capacity : ℕ) → startReply capacity .refusal ≡ firstOf (startRows capacity)
+start-number : (capacity : ℕ) → startReply capacity .refusal ≡ firstOf (startRows capacity)
 unfolding startReply
 start-number capacity = reply-number (startRows capacity) _ refl
 

@@ -3,8 +3,9 @@ use mathlib.Core.Path.{refl}
 use borrow.Author.Needs.{needs}
 use borrow.Author.Tests.{not-true, not-false}
 use Rattle.dispatch.proofs.Calling.{called-small}
-use Rattle.line_run.specs.LineRun.{sheetOf}
-use Rattle.line_run.proofs.Running.{shown, asked, too-early, call-run}
+use Rattle.sheet_start.specs.SheetStart.{sheetOf}
+use Rattle.sheet_start.proofs.Starting.{shown}
+use Rattle.line_run.proofs.Running.{asked, too-early, call-run}
 use Rattle.line_run.proofs.run_call.Statement.{statement}
 use Rattle.line_run.proofs.run_call.Tie as tie
 

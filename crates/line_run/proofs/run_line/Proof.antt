@@ -5,8 +5,10 @@ use mathlib.Core.Option.{some}
 use borrow.Author.Needs.{needs}
 use Rattle.parsing.specs.Line.{spaced, lineOf}
 use Rattle.parsing.proofs.Reading.{nothing-read, number-there, inside-line, no-first, no-second, wholeOf, with-second, without-second, more-after, none-after}
-use Rattle.line_run.specs.LineRun.{sheetOf, lineRun}
-use Rattle.line_run.proofs.Running.{shown, asked, not-read}
+use Rattle.sheet_start.specs.SheetStart.{sheetOf}
+use Rattle.sheet_start.proofs.Starting.{shown}
+use Rattle.line_run.specs.LineRun.{lineRun}
+use Rattle.line_run.proofs.Running.{asked, not-read}
 use Rattle.line_run.proofs.run_line.Statement.{statement}
 use Rattle.line_run.proofs.run_line.Tie as tie
 

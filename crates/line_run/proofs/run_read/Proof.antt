@@ -1,8 +1,10 @@
 -- `line_run::run_read` meets its contract: an arm for each kind of line.
 use mathlib.Core.Path.{ap}
 use borrow.Author.Needs.{needs}
-use Rattle.line_run.specs.LineRun.{sheetOf, lineRun}
-use Rattle.line_run.proofs.Running.{shown, asked, not-read}
+use Rattle.sheet_start.specs.SheetStart.{sheetOf}
+use Rattle.sheet_start.proofs.Starting.{shown}
+use Rattle.line_run.specs.LineRun.{lineRun}
+use Rattle.line_run.proofs.Running.{asked, not-read}
 use Rattle.line_run.proofs.run_read.Statement.{statement}
 use Rattle.line_run.proofs.run_read.Tie as tie
 
@@ -31,6 +33,7 @@ same-length-2 : tie.Need-same-length-2
 same-length-2 c = search needs
 
 returns : tie.Need-returns
+unfolding lineRun
 returns c =
     let r = c .before .before .before .before in
     let l = r .before .before .before .before in
