@@ -1,45 +1,12 @@
--- Running a line: what a call and a line that gets a question mark print, and the sheet after each.
+-- A line that can't be read gets a question mark and keeps the sheet.
 -- Assumes nothing.
-use Prim.Native.Nat.{ℕ, _+_}
-use mathlib.Core.Path.{_≡_, ap}
-use mathlib.Core.Bool.{true, false}
-use mathlib.Core.List.{List}
-use mathlib.Core.Option.{some}
-use lib.ListN.{length}
-use lib.Seq.{sets}
-use Rattle.table.specs.declared.Table.{Table}
-use Rattle.replies.specs.declared.Reply.{Reply}
-use Rattle.history.specs.Machine.{State}
-use Rattle.dispatch.specs.ByNumber.{callOf, replyTo, nextBy}
+use mathlib.Core.Path.{_≡_}
 use Rattle.parsing.specs.declared.Line.{Line}
 use Rattle.parsing.specs.declared.Line.the-variants as line
-use Rattle.printing.specs.Print.{question, answered}
-use Rattle.sheet_start.specs.declared.InUse.{InUse}
-use Rattle.sheet_start.specs.SheetStart.{Done, sheetOf}
-use Rattle.sheet_start.proofs.Starting.{shown}
-use Rattle.line_run.specs.LineRun.{callRun, lineRun}
+use Rattle.printing.specs.Print.{question}
+use Rattle.sheet_start.specs.SheetStart.{Sheet}
+use Rattle.line_run.specs.LineRun.{lineRun}
 
--- what a function shows of a line that gets a question mark
-pub asked : (d : Done) (u u′ : InUse) (m out out′ : List ℕ) (at next : ℕ) → d ≡ record { bytes = question; sheet = sheetOf u m }
-    → (next ≡ at + length question) × ((out′ ≡ sets out at question) × (u′ ≡ u))
-    → (next ≡ at + length (d .bytes)) × ((out′ ≡ sets out at (d .bytes)) × (sheetOf u′ m ≡ d .sheet))
-asked d u u′ m out out′ at next e a = shown d e out out′ at next (sheetOf u′ m) (a .0) (a .1 .0) (ap (λ (v : InUse). sheetOf v m) (a .1 .1))
-
-module _ (u : InUse) (m : List ℕ) where
-  pub not-read : (L : Line) → L ≡ line.Unreadable → lineRun (sheetOf u m) L ≡ record { bytes = question; sheet = sheetOf u m }
-  unfolding lineRun
-  not-read L e = rw e
-
-  -- a call before the first accepted S
-  pub too-early : (number subject amount : ℕ) → u .started ≡ false → lineRun (sheetOf u m) (line.Call number subject amount) ≡ record { bytes = question; sheet = sheetOf u m }
-  unfolding lineRun callRun sheetOf
-  too-early number subject amount e = rw e
-
-  -- and after it, with what the call gives
-  pub call-run : (number subject amount : ℕ) → u .started ≡ true → (r : Reply) (t : Table) (m′ : List ℕ)
-      → (let S : State = record { table = u .table; medium = m } in r ≡ replyTo S (callOf number subject amount))
-      → (let S : State = record { table = u .table; medium = m } in t ≡ nextBy S (callOf number subject amount) .table)
-      → (let S : State = record { table = u .table; medium = m } in m′ ≡ nextBy S (callOf number subject amount) .medium)
-      → lineRun (sheetOf u m) (line.Call number subject amount) ≡ record { bytes = answered number r; sheet = record { table = some t; medium = m′ } }
-  unfolding lineRun callRun sheetOf
-  call-run number subject amount e r t m′ er et em = rw (e, er, et, em)
+pub not-read : (s : Sheet) (L : Line) → L ≡ line.Unreadable → lineRun s L ≡ record { bytes = question; sheet = s }
+unfolding lineRun
+not-read s L e = rw e

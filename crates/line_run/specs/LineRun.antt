@@ -1,25 +1,11 @@
 -- One line of a sheet, run (document 01, "The program"): what it prints, and the table in use and the medium after it.
-use Prim.Native.Nat.{ℕ}
-use mathlib.Core.Option.{Option, none, some}
-use Rattle.table.specs.declared.Table.{Table}
-use Rattle.history.specs.Machine.{State}
-use Rattle.dispatch.specs.ByNumber.{callOf, replyTo, nextBy}
 use Rattle.parsing.specs.declared.Line.{Line}
 use Rattle.parsing.specs.declared.Line.the-variants as line
-use Rattle.printing.specs.Print.{question, answered}
+use Rattle.printing.specs.Print.{question}
 use Rattle.sheet_start.specs.SheetStart.{Sheet, Done, startRun}
+use Rattle.sheet_call.specs.SheetCall.{callRun}
 
--- before the first accepted S a call prints a question mark
-unfoldable pub callRun : Sheet → Option Table → ℕ → ℕ → ℕ → Done
-callRun s none number subject amount = record { bytes = question; sheet = s }
-callRun s (some t) number subject amount =
-    let S : State = record { table = t; medium = s .medium } in
-    let o = callOf number subject amount in
-    record {
-      bytes = answered number (replyTo S o);
-      sheet = record { table = some (nextBy S o .table); medium = nextBy S o .medium };
-    }
-
+-- a start, a call, or a line that can't be read
 unfoldable pub lineRun : Sheet → Line → Done
 lineRun s (line.Start capacity) = startRun s capacity
 lineRun s (line.Call number subject amount) = callRun s (s .table) number subject amount

@@ -26,7 +26,8 @@ use Rattle.letters.specs.Letter.{letters, letterOf, numberFor}
 use Rattle.parsing.specs.Line.{isDigit, digitRun, valueOf, numberAt, spaced, lineBy, hasTwo, last, first, lineOf}
 use Rattle.printing.specs.Print.{digits, decimal, printed, question, answered}
 use Rattle.sheet_start.specs.SheetStart.{startRun}
-use Rattle.line_run.specs.LineRun.{callRun, lineRun}
+use Rattle.sheet_call.specs.SheetCall.{callRun}
+use Rattle.line_run.specs.LineRun.{lineRun}
 use Rattle.sheet.specs.Sheet.{longer, linesOf, run, outputOf}
 
 -- a line each, LF at its end

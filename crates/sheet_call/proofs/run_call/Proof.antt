@@ -1,13 +1,13 @@
--- `line_run::run_call` meets its contract.
+-- `sheet_call::run_call` meets its contract.
 use mathlib.Core.Path.{refl}
 use borrow.Author.Needs.{needs}
 use borrow.Author.Tests.{not-true, not-false}
 use Rattle.dispatch.proofs.Calling.{called-small}
 use Rattle.sheet_start.specs.SheetStart.{sheetOf}
 use Rattle.sheet_start.proofs.Starting.{shown}
-use Rattle.line_run.proofs.Running.{asked, too-early, call-run}
-use Rattle.line_run.proofs.run_call.Statement.{statement}
-use Rattle.line_run.proofs.run_call.Tie as tie
+use Rattle.sheet_call.proofs.Calls.{asked, too-early, call-run}
+use Rattle.sheet_call.proofs.run_call.Statement.{statement}
+use Rattle.sheet_call.proofs.run_call.Tie as tie
 
 ask-requires : tie.Need-ask-requires
 ask-requires c κs = search needs

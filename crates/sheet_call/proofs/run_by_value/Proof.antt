@@ -1,12 +1,12 @@
--- `line_run::run_by_value` meets its contract: add_server and reweight by value, every other call on the borrowed columns.
+-- `sheet_call::run_by_value` meets its contract: add_server and reweight by value, every other call on the borrowed columns.
 use mathlib.Core.Logic.{_≢_}
 use native.Mathlib.Omega.{arith}
 use borrow.Author.Needs.{needs}
 use Rattle.replies.specs.Number.{addServerNumber, reweightNumber}
 use Rattle.history.specs.Machine.{State}
 use Rattle.dispatch.proofs.Calling.{counts, called-in}
-use Rattle.line_run.proofs.run_by_value.Statement.{statement}
-use Rattle.line_run.proofs.run_by_value.Tie as tie
+use Rattle.sheet_call.proofs.run_by_value.Statement.{statement}
+use Rattle.sheet_call.proofs.run_by_value.Tie as tie
 
 -- the branch of the calls on borrowed columns, its start, and the state there
 abbrev E : tie.After-run-in → tie.Else1
