@@ -30,8 +30,7 @@ use Rattle.batch_answer.proofs.Filled.{filled-at}
 use Rattle.batch_answer.proofs.Orders.{mounts-few}
 use Rattle.batch.specs.Batch.{openedAt, batchRows, batchReply}
 use Rattle.archive.proofs.Small.{lookup-small}
-use Rattle.encoding.specs.Encoding.{replyLength, withReply}
-use Rattle.encoding.specs.ByNumber.{tooShort}
+use Rattle.encoding.specs.Encoding.{replyLength, tooShort, withReply}
 use Rattle.replay.specs.Replay.{withReplies}
 use Rattle.batch_words.specs.BatchWords.{fitsBatch, batchStored, afterBatch, lookupPart}
 

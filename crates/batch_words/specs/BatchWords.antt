@@ -11,8 +11,7 @@ use Rattle.replies.specs.declared.Reply.{Reply}
 use Rattle.lookup.specs.Lookup.{lookupReply}
 use Rattle.batch_answer.specs.declared.Batch.{Batch}
 use Rattle.batch.specs.Batch.{batchReply}
-use Rattle.encoding.specs.Encoding.{replyLength}
-use Rattle.encoding.specs.ByNumber.{tooShort}
+use Rattle.encoding.specs.Encoding.{replyLength, tooShort}
 use Rattle.replay.specs.Replay.{withReplies}
 
 -- what a batch leaves: the number that it answers, and the words of the replies, of the order and of the mounts

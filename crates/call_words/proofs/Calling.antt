@@ -16,9 +16,9 @@ use Rattle.replies.specs.Number.{addServerNumber, reweightNumber, writeNumber}
 use Rattle.replies.specs.declared.Reply.{Reply}
 use Rattle.history.specs.Call.{Call}
 use Rattle.history.specs.Machine.{State}
-use Rattle.encoding.specs.Encoding.{callLength, replyLength, withReplyAt}
-use Rattle.encoding.specs.ByNumber.{callOf, callAt, tooShort, replyTo, nextBy, usedAfter}
-use Rattle.encoding.proofs.Calling.{counts, called-in}
+use Rattle.encoding.specs.Encoding.{callLength, replyLength, tooShort, withReplyAt}
+use Rattle.dispatch.specs.ByNumber.{callOf, callAt, replyTo, nextBy, usedAfter}
+use Rattle.dispatch.proofs.Calling.{counts, called-in}
 use Rattle.call_words.proofs.Kept.{call-count}
 use Rattle.call_words.specs.CallWords.{lent, fitsCall, afterCall, withColumn}
 use Rattle.call_words.proofs.Columns.{used-stored, length-column}

@@ -22,7 +22,7 @@ use Rattle.server_rows.proofs.Accepted.{addServer-accepted}
 use Rattle.servers.specs.Servers.{addServerTable, reweightTable}
 use Rattle.history.specs.Call.{Call, addServer, reweight, write, delete, lookup, batch}
 use Rattle.history.specs.Machine.{State, next}
-use Rattle.encoding.specs.ByNumber.{nextBy}
+use Rattle.dispatch.specs.ByNumber.{nextBy}
 use Rattle.call_words.specs.CallWords.{lent}
 use Rattle.call_words.proofs.Columns.{length-column, long-table}
 

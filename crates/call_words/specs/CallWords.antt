@@ -7,8 +7,8 @@ use lib.ListN.{length, take, drop}
 use lib.Dec.{leb}
 use Rattle.limits.specs.Limits.{maxServers}
 use Rattle.table_words.specs.Words.{tableLength, tableFrom, withTable}
-use Rattle.encoding.specs.Encoding.{callLength, replyLength, withReplyAt}
-use Rattle.encoding.specs.ByNumber.{callAt, tooShort, replyTo, nextBy}
+use Rattle.encoding.specs.Encoding.{callLength, replyLength, tooShort, withReplyAt}
+use Rattle.dispatch.specs.ByNumber.{callAt, replyTo, nextBy}
 use Rattle.history.specs.Machine.{State}
 
 -- a lent table over a lent medium

@@ -7,7 +7,7 @@ ghost use Rattle.limits.specs.Limits.{maxServers, maxCapacity};
 ghost use Rattle.lists.specs.Below.{nth};
 ghost use Rattle.table_words.specs.Words.{usedOffset, tableLength, columnFrom, withTable};
 ghost use Rattle.replies.specs.Number.{addServerNumber, reweightNumber, writeNumber};
-ghost use Rattle.encoding.specs.ByNumber.{callOf, replyTo, nextBy, usedAfter};
+ghost use Rattle.dispatch.specs.ByNumber.{callOf, replyTo, nextBy, usedAfter};
 ghost use Rattle.call_words.specs.CallWords.{lent, afterCall, withColumn};
 use encoding::AMOUNT_OFFSET;
 use encoding::CALL_LENGTH;
@@ -43,7 +43,7 @@ fn run_on(words: &[u32], medium: &mut [u32], number: u32, subject: u32, amount: 
         &words[NUMERATORS_OFFSET..DENOMINATORS_OFFSET],
         &words[DENOMINATORS_OFFSET..TABLE_LENGTH],
     ];
-    encoding::run_in(shape, columns, medium, number, subject, amount)
+    dispatch::run_in(shape, columns, medium, number, subject, amount)
 }
 
 // Counts the entry of an accepted write as used on its server.
@@ -52,7 +52,7 @@ fn count(words: &mut [u32], number: u32, reply: Reply)
     requires { ⌜ (number ≡ writeNumber → reply .refusal ≡ 0 → (reply .server < maxServers) × (nth (columnFrom (now words) usedOffset) (reply .server) < maxCapacity)) ⌝ }
     ensures { λ _. ⌜ now (words .exit) ≡ withColumn (now (words .entry)) usedOffset (usedAfter (columnFrom (now (words .entry)) usedOffset) number reply) ⌝ }
 {
-    encoding::count_write(&mut words[USED_OFFSET..NUMERATORS_OFFSET], number, reply);
+    dispatch::count_write(&mut words[USED_OFFSET..NUMERATORS_OFFSET], number, reply);
 }
 
 // Runs a call by its number on a table lent as words.
@@ -63,7 +63,7 @@ pub fn run(table: &mut [u32], medium: &mut [u32], number: u32, subject: u32, amo
     ensures medium { λ _. ⌜ now (medium .exit) ≡ nextBy (lent (now (table .entry)) (now (medium .entry))) (callOf number subject amount) .medium ⌝ }
 {
     if number < WRITE {
-        let ran = encoding::run_change(
+        let ran = dispatch::run_change(
             table_words::table_from(table),
             medium,
             number,

@@ -6,7 +6,7 @@ use lib.ListN.{take}
 use Rattle.printing.specs.Print.{question}
 use Rattle.streams.specs.declared.Read.{Read}
 use Rattle.streams.specs.declared.Read.the-variants as read
-use Rattle.line_run.specs.LineRun.{Done}
+use Rattle.sheet_start.specs.SheetStart.{Done}
 use Rattle.sheet.specs.Sheet.{outputOf}
 
 -- the output of the bytes read; where reading failed nothing is run, and one question mark is printed

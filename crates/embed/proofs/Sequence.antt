@@ -19,7 +19,7 @@ use Rattle.servers.specs.Servers.{startTable}
 use Rattle.history.specs.Call.{Call}
 use Rattle.history.specs.Machine.{State, after, begin}
 use Rattle.encoding.specs.Encoding.{callLength}
-use Rattle.encoding.specs.ByNumber.{callAt, nextBy}
+use Rattle.dispatch.specs.ByNumber.{callAt, nextBy}
 use Rattle.call_words.specs.CallWords.{lent, fitsCall, afterCall}
 use Rattle.replay.proofs.Replaying.{start-arrays}
 use Rattle.call_words.proofs.Kept.{length-stored, lent-next}

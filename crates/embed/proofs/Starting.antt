@@ -9,7 +9,7 @@ use Rattle.table.specs.declared.Table.{Table}
 use Rattle.table_words.specs.Words.{tableLength, withTable}
 use Rattle.replies.specs.declared.Reply.{Reply}
 use Rattle.servers.specs.Servers.{startReply, startTable}
-use Rattle.encoding.specs.ByNumber.{tooShort}
+use Rattle.encoding.specs.Encoding.{tooShort}
 use Rattle.embed.specs.Embed.{startNumber}
 
 -- what `archive_start` ensures where it answers n

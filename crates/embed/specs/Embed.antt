@@ -6,7 +6,7 @@ use lib.ListN.{length}
 use lib.Dec.{leb}
 use Rattle.table_words.specs.Words.{tableLength}
 use Rattle.servers.specs.Servers.{startReply}
-use Rattle.encoding.specs.ByNumber.{tooShort}
+use Rattle.encoding.specs.Encoding.{tooShort}
 
 -- the version of the interface: it grows when a signature or an encoding changes
 abbrev pub version : ℕ

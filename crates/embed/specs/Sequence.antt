@@ -8,7 +8,7 @@ use lib.ListN.{length, replicate}
 use lib.Dec.{leb}
 use Rattle.history.specs.Call.{Call}
 use Rattle.encoding.specs.Encoding.{callLength, replyLength}
-use Rattle.encoding.specs.ByNumber.{callAt}
+use Rattle.dispatch.specs.ByNumber.{callAt}
 use Rattle.call_words.specs.CallWords.{afterCall}
 
 -- table and medium as words

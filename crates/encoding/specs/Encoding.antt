@@ -60,6 +60,10 @@ spareOffset = 6
 abbrev pub lastOffset : ℕ
 lastOffset = 7
 
+-- the answer where words that are lent are too few, a number that no call gives
+abbrev pub tooShort : ℕ
+tooShort = 4294967294
+
 -- as many calls as slices of these lengths both have room for
 abbrev pub roomFor : ℕ → ℕ → ℕ
 roomFor calls replies = min (calls / callLength) (replies / replyLength)

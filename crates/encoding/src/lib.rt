@@ -1,150 +1,60 @@
-// One call, run by its number, and the words by which other programs hand over calls and get replies.
-mod words;
-
+// The words of calls and replies: how many fit, and a reply stored. specs/Encoding.antt says which word is which.
 ghost use mathlib.Core.Path.{_≡_};
-ghost use mathlib.Core.Logic.{_≢_};
-ghost use Prim.Native.Nat.{_<_};
+ghost use Prim.Native.Nat.{_<_, _≤_, _+_};
 ghost use lib.ListN.{length};
-ghost use Rattle.limits.specs.Limits.{maxCapacity};
-ghost use Rattle.lists.specs.Below.{nth};
-ghost use Rattle.table.specs.Parts.{tableOf, Whole};
-ghost use Rattle.replies.specs.Number.{addServerNumber, reweightNumber, writeNumber};
-ghost use Rattle.replies.specs.Reply.{refused, replyOfServer};
-ghost use Rattle.encoding.specs.ByNumber.{callOf, noCall, replyTo, nextBy, usedAfter};
-use limits::Column;
-use replies::ADD_SERVER;
-use replies::DELETE;
-use replies::LOOKUP;
-use replies::REWEIGHT;
+ghost use Rattle.encoding.specs.Encoding.{replyLength, roomFor, withReplyAt};
 use replies::Reply;
-use replies::WRITE;
-use servers::Changed;
-use table::Columns;
-use table::Shape;
-use table::Table;
-pub use words::AMOUNT_OFFSET;
-pub use words::CALL_LENGTH;
-pub use words::NUMBER_OFFSET;
-pub use words::REPLY_LENGTH;
-pub use words::SUBJECT_OFFSET;
-pub use words::room;
-pub use words::store;
+
+// How many words a call has, and where those stand that are read.
+pub const CALL_LENGTH: usize = 8;
+
+pub const NUMBER_OFFSET: usize = 0;
+
+pub const SUBJECT_OFFSET: usize = 2;
+
+pub const AMOUNT_OFFSET: usize = 3;
+
+// How many words a reply has, and where each stands; the high bits of a value, and the last two, are 0.
+pub const REPLY_LENGTH: usize = 8;
+
+const REFUSAL_OFFSET: usize = 0;
+
+const SERVER_OFFSET: usize = 1;
+
+const VALUE_OFFSET: usize = 2;
+
+const HIGH_OFFSET: usize = 3;
+
+const OPENED_OFFSET: usize = 4;
+
+const INVALIDATED_OFFSET: usize = 5;
+
+const SPARE_OFFSET: usize = 6;
+
+const LAST_OFFSET: usize = 7;
 
 // The answer where words that are lent are too few, a number that no call gives.
 pub const TOO_SHORT: u32 = 4294967294;
 
-// A reply, and the table after the call.
-pub struct Ran {
-    pub reply: Reply,
-    pub table: Table,
+// How many encoded calls slices of these lengths have room for.
+pub fn room(calls: usize, replies: usize) -> usize
+    ensures { λ r. ⌜ r ≡ roomFor calls replies ⌝ }
+{
+    lists::lesser(calls / CALL_LENGTH, replies / REPLY_LENGTH)
 }
 
-fn from_changed(changed: Changed) -> Ran
-    ensures reply { λ r. ⌜ r .reply ≡ replyOfServer (changed .answer) ⌝ }
-    ensures table { λ r. ⌜ r .table ≡ changed .table ⌝ }
+// Stores the eight words of a reply, from a word on.
+pub fn store(replies: &mut [u32], at: usize, reply: Reply)
+    requires { ⌜ at + replyLength ≤ length (now replies) ⌝ }
+    requires { ⌜ (reply .server < 4294967296) × (reply .opened < 4294967296) × (reply .invalidated < 4294967296) ⌝ }
+    ensures { λ _. ⌜ now (replies .exit) ≡ withReplyAt (now (replies .entry)) at reply ⌝ }
 {
-    let answer = changed.answer;
-    let table = changed.table;
-    Ran {
-        reply: replies::server_reply(answer),
-        table,
-    }
-}
-
-// What is no call gets a refusal number that no call gives.
-fn no_call() -> Reply
-    ensures { λ r. ⌜ r ≡ refused noCall 0 ⌝ }
-{
-    Reply {
-        refusal: 4294967295,
-        server: 0,
-        value: 0,
-        opened: 0,
-        invalidated: 0,
-    }
-}
-
-// Runs a call but add_server and reweight on a table whose columns are borrowed. `count_write` then makes the table after it.
-pub fn run_in<'a>(
-    shape: Shape,
-    columns: Columns<'a>,
-    medium: &mut [u32],
-    number: u32,
-    subject: u32,
-    amount: u32,
-) -> Reply
-    requires { ⌜ Whole columns ⌝ }
-    requires { ⌜ (number ≢ addServerNumber) × (number ≢ reweightNumber) ⌝ }
-    ensures reply { λ r. ⌜ r ≡ replyTo (record { table = tableOf shape (columns .entry); medium = now (medium .entry) }) (callOf number subject amount) ⌝ }
-    ensures medium { λ _. ⌜ now (medium .exit) ≡ nextBy (record { table = tableOf shape (columns .entry); medium = now (medium .entry) }) (callOf number subject amount) .medium ⌝ }
-{
-    match number {
-        WRITE => replies::write_reply(writing::write_in(shape, columns, medium, subject, amount)),
-        DELETE => replies::delete_reply(deletion::delete_in(shape, columns, medium, subject)),
-        LOOKUP => replies::lookup_reply(lookup::lookup_in(shape, columns, medium, subject)),
-        _ => no_call(),
-    }
-}
-
-// Counts the entry of an accepted write as used on its server; no other call but add_server and reweight changes the table.
-pub fn count_write(used: &mut [u32], number: u32, reply: Reply)
-    requires { ⌜ (number ≡ writeNumber → reply .refusal ≡ 0 → (reply .server < length (now used)) × (nth (now used) (reply .server) < maxCapacity)) ⌝ }
-    ensures { λ _. ⌜ now (used .exit) ≡ usedAfter (now (used .entry)) number reply ⌝ }
-{
-    if number == WRITE {
-        if reply.refusal == 0 {
-            let server = reply.server;
-            upkeep::count_entry(used, server);
-        }
-    }
-}
-
-// Runs add_server or reweight, which take the table by value; 0 is no call.
-pub fn run_change(table: Table, medium: &mut [u32], number: u32, subject: u32, amount: u32) -> Ran
-    requires { ⌜ number < writeNumber ⌝ }
-    ensures reply { λ r. ⌜ r .reply ≡ replyTo (record { table = table; medium = now (medium .entry) }) (callOf number subject amount) ⌝ }
-    ensures table { λ r. ⌜ r .table ≡ nextBy (record { table = table; medium = now (medium .entry) }) (callOf number subject amount) .table ⌝ }
-    ensures medium { λ _. ⌜ now (medium .exit) ≡ nextBy (record { table = table; medium = now (medium .entry) }) (callOf number subject amount) .medium ⌝ }
-{
-    match number {
-        ADD_SERVER => from_changed(servers::add_server(table, medium, amount)),
-        REWEIGHT => from_changed(servers::reweight(table, subject as usize, amount)),
-        _ => Ran {
-            reply: no_call(),
-            table,
-        },
-    }
-}
-
-// Counts the entry of an accepted write in the column of a table by value. A field that is an array can be lent as an array alone.
-fn count_in(used: &mut Column, number: u32, reply: Reply)
-    requires { ⌜ (number ≡ writeNumber → reply .refusal ≡ 0 → (reply .server < length (now used)) × (nth (now used) (reply .server) < maxCapacity)) ⌝ }
-    ensures { λ _. ⌜ now (used .exit) ≡ usedAfter (now (used .entry)) number reply ⌝ }
-{
-    count_write(used, number, reply);
-}
-
-// Runs a call by its number on a table by value.
-pub fn run_call(table: Table, medium: &mut [u32], number: u32, subject: u32, amount: u32) -> Ran
-    ensures reply { λ r. ⌜ r .reply ≡ replyTo (record { table = table; medium = now (medium .entry) }) (callOf number subject amount) ⌝ }
-    ensures table { λ r. ⌜ r .table ≡ nextBy (record { table = table; medium = now (medium .entry) }) (callOf number subject amount) .table ⌝ }
-    ensures medium { λ _. ⌜ now (medium .exit) ≡ nextBy (record { table = table; medium = now (medium .entry) }) (callOf number subject amount) .medium ⌝ }
-{
-    if number < WRITE {
-        return run_change(table, medium, number, subject, amount);
-    }
-    let shape = Shape {
-        capacity: table.capacity,
-        count: table.count,
-    };
-    let columns: Columns = [
-        &table.weights,
-        &table.used,
-        &table.numerators,
-        &table.denominators,
-    ];
-    let reply = run_in(shape, columns, medium, number, subject, amount);
-    let mut next = table;
-    count_in(&mut next.used, number, reply);
-    Ran { reply, table: next }
+    replies[at + REFUSAL_OFFSET] = reply.refusal;
+    replies[at + SERVER_OFFSET] = reply.server as u32;
+    replies[at + VALUE_OFFSET] = reply.value;
+    replies[at + HIGH_OFFSET] = 0;
+    replies[at + OPENED_OFFSET] = reply.opened as u32;
+    replies[at + INVALIDATED_OFFSET] = reply.invalidated as u32;
+    replies[at + SPARE_OFFSET] = 0;
+    replies[at + LAST_OFFSET] = 0;
 }

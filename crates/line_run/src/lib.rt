@@ -1,112 +1,16 @@
 // Running one line. Its answer goes to the lent buffer, from a position on.
 ghost use mathlib.Core.Path.{_≡_};
 ghost use Prim.Native.Nat.{_+_, _≤_};
-ghost use lib.ListN.{length, replicate};
+ghost use lib.ListN.{length};
 ghost use lib.Seq.{sets};
-ghost use Rattle.medium.specs.Word.{blank};
-ghost use Rattle.parsing.specs.declared.Line.the-variants as line;
 ghost use Rattle.parsing.specs.Line.{lineOf};
-ghost use Rattle.printing.specs.Print.{longestLine, question};
-ghost use Rattle.line_run.specs.LineRun.{sheetOf, lineRun};
+ghost use Rattle.printing.specs.Print.{longestLine};
+ghost use Rattle.sheet_start.specs.SheetStart.{sheetOf};
+ghost use Rattle.line_run.specs.LineRun.{lineRun};
 use parsing::Line;
 use parsing::Parsed;
-use table::Table;
-
-// The table in use, once a start was accepted; before that the table counts for nothing.
-pub struct InUse {
-    pub started: bool,
-    pub table: Table,
-}
-
-// The position after what a line printed, and the table in use after it.
-pub struct AfterLine {
-    pub next: usize,
-    pub in_use: InUse,
-}
-
-// Makes every word blank.
-fn blank_all(words: &mut [u32])
-    ensures { λ _. ⌜ now (words .exit) ≡ replicate (length (now (words .entry))) blank ⌝ }
-{
-    let mut i: usize = 0;
-    while i < words.len() {
-        words[i] = medium::BLANK;
-        i += 1;
-    }
-}
-
-// Prints the question mark of a line that can't be read, or comes before the first accepted S.
-fn ask(in_use: InUse, out: &mut [u8], at: usize) -> AfterLine
-    requires { ⌜ at + 2 ≤ length (now out) ⌝ }
-    ensures next { λ r. ⌜ r .next ≡ at + length question ⌝ }
-    ensures bytes { λ _. ⌜ now (out .exit) ≡ sets (now (out .entry)) at question ⌝ }
-    ensures kept { λ r. ⌜ r .in_use ≡ in_use ⌝ }
-{
-    let next = printing::put_question(out, at);
-    AfterLine { next, in_use }
-}
-
-// Runs a start. One that is refused keeps the table in use.
-fn run_start(
-    in_use: InUse,
-    medium: &mut [u32],
-    capacity: u32,
-    out: &mut [u8],
-    at: usize,
-) -> AfterLine
-    requires { ⌜ at + longestLine ≤ length (now out) ⌝ }
-    ensures next { λ r. ⌜ r .next ≡ at + length (lineRun (sheetOf in_use (now (medium .entry))) (line.Start capacity) .bytes) ⌝ }
-    ensures bytes { λ _. ⌜ now (out .exit) ≡ sets (now (out .entry)) at (lineRun (sheetOf in_use (now (medium .entry))) (line.Start capacity) .bytes) ⌝ }
-    ensures sheet { λ r. ⌜ sheetOf (r .in_use) (now (medium .exit)) ≡ lineRun (sheetOf in_use (now (medium .entry))) (line.Start capacity) .sheet ⌝ }
-{
-    let begun = servers::start(capacity);
-    let answer = begun.answer;
-    let reply = replies::start_reply(answer);
-    let next = printing::put_answer(out, at, letters::START, reply.refusal, 0, 0);
-    if reply.refusal != 0 {
-        return AfterLine { next, in_use };
-    }
-    blank_all(medium);
-    let table = begun.table;
-    AfterLine {
-        next,
-        in_use: InUse {
-            started: true,
-            table,
-        },
-    }
-}
-
-// Runs a call by its number; before the first accepted S it is not run.
-fn run_call(
-    in_use: InUse,
-    medium: &mut [u32],
-    number: u32,
-    subject: u32,
-    amount: u32,
-    out: &mut [u8],
-    at: usize,
-) -> AfterLine
-    requires { ⌜ at + longestLine ≤ length (now out) ⌝ }
-    ensures next { λ r. ⌜ r .next ≡ at + length (lineRun (sheetOf in_use (now (medium .entry))) (line.Call number subject amount) .bytes) ⌝ }
-    ensures bytes { λ _. ⌜ now (out .exit) ≡ sets (now (out .entry)) at (lineRun (sheetOf in_use (now (medium .entry))) (line.Call number subject amount) .bytes) ⌝ }
-    ensures sheet { λ r. ⌜ sheetOf (r .in_use) (now (medium .exit)) ≡ lineRun (sheetOf in_use (now (medium .entry))) (line.Call number subject amount) .sheet ⌝ }
-{
-    if !in_use.started {
-        return ask(in_use, out, at);
-    }
-    let table = in_use.table;
-    let ran = encoding::run_call(table, medium, number, subject, amount);
-    let next = printing::put_reply(out, at, number, ran.reply);
-    let after = ran.table;
-    AfterLine {
-        next,
-        in_use: InUse {
-            started: true,
-            table: after,
-        },
-    }
-}
+use sheet_start::AfterLine;
+use sheet_start::InUse;
 
 // Runs what a line asks for.
 fn run_read(in_use: InUse, medium: &mut [u32], line: Line, out: &mut [u8], at: usize) -> AfterLine
@@ -116,8 +20,8 @@ fn run_read(in_use: InUse, medium: &mut [u32], line: Line, out: &mut [u8], at: u
     ensures sheet { λ r. ⌜ sheetOf (r .in_use) (now (medium .exit)) ≡ lineRun (sheetOf in_use (now (medium .entry))) line .sheet ⌝ }
 {
     match line {
-        Line::Start(capacity) => run_start(in_use, medium, capacity, out, at),
-        Line::Call(number, subject, amount) => run_call(
+        Line::Start(capacity) => sheet_start::run_start(in_use, medium, capacity, out, at),
+        Line::Call(number, subject, amount) => sheet_call::run_call(
             in_use,
             medium,
             number,
@@ -126,7 +30,7 @@ fn run_read(in_use: InUse, medium: &mut [u32], line: Line, out: &mut [u8], at: u
             out,
             at,
         ),
-        Line::Unreadable => ask(in_use, out, at),
+        Line::Unreadable => sheet_call::ask(in_use, out, at),
     }
 }
 
@@ -145,7 +49,7 @@ pub fn run_line(
 {
     let one = parsing::number_after(line, 1);
     let Parsed::Number(first, after_first) = one else {
-        return ask(in_use, out, at);
+        return sheet_call::ask(in_use, out, at);
     };
     let letter = line[0];
     let mut second: u32 = 0;
@@ -153,13 +57,13 @@ pub fn run_line(
     if parsing::has_two(letter) {
         let two = parsing::number_after(line, after_first);
         let Parsed::Number(number, after_second) = two else {
-            return ask(in_use, out, at);
+            return sheet_call::ask(in_use, out, at);
         };
         second = number;
         end = after_second;
     }
     if end != line.len() {
-        return ask(in_use, out, at);
+        return sheet_call::ask(in_use, out, at);
     }
     run_read(
         in_use,

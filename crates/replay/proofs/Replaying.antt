@@ -34,7 +34,7 @@ use Rattle.history.specs.Ledger.{freshLedger, ledgerAfter}
 use Rattle.history.proofs.Unaltered.{after-append}
 use Rattle.history.proofs.Run.{begin-agrees, step, run}
 use Rattle.encoding.specs.Encoding.{callLength, numberOffset, subjectOffset, amountOffset, replyLength, roomFor, withReplyAt, withReply}
-use Rattle.encoding.specs.ByNumber.{callOf, callAt, replyTo, nextBy}
+use Rattle.dispatch.specs.ByNumber.{callOf, callAt, replyTo, nextBy}
 use Rattle.encoding.proofs.Storing.{Stored, length-withReply, stored-here, stored-below}
 use Rattle.call_words.specs.CallWords.{lent}
 use Rattle.call_words.proofs.Columns.{stored-same}
@@ -95,7 +95,7 @@ ledger-words capacity z m calls words n fits = record {
 }
 
 -- whether start accepted, by its answer
-pub start-number : (capacity : ℕ) → startReply capacity .refusal ≡ firstOf (startRows capacity)
+start-number : (capacity : ℕ) → startReply capacity .refusal ≡ firstOf (startRows capacity)
 unfolding startReply
 start-number capacity = reply-number (startRows capacity) _ refl
 

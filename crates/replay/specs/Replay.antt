@@ -14,7 +14,7 @@ use Rattle.history.specs.Call.{Call, Compared}
 use Rattle.history.specs.Machine.{State, after}
 use Rattle.history.specs.Ledger.{Ledger, freshLedger, told, enter, ledgerAfter}
 use Rattle.encoding.specs.Encoding.{refusalOffset, serverOffset, valueOffset, openedOffset, roomFor, replyWord, withReply}
-use Rattle.encoding.specs.ByNumber.{callAt, noCall, replyTo}
+use Rattle.dispatch.specs.ByNumber.{callAt, noCall, replyTo}
 
 -- a list with one call more, where it is a call
 unfoldable pub appended : List Call → Option Call → List Call

@@ -15,7 +15,9 @@ use Rattle.parsing.specs.declared.Line.{Line}
 use Rattle.parsing.specs.declared.Line.the-variants as line
 use Rattle.parsing.specs.Line.{lineOf}
 use Rattle.printing.specs.Print.{question}
-use Rattle.line_run.specs.LineRun.{Sheet, startRun, callRun, lineRun}
+use Rattle.sheet_start.specs.SheetStart.{Sheet, startRun}
+use Rattle.sheet_call.specs.SheetCall.{callRun}
+use Rattle.line_run.specs.LineRun.{lineRun}
 use Rattle.sheet.specs.Sheet.{linesOf, run, outputOf}
 
 abbrev fresh : List ℕ → Sheet

@@ -22,8 +22,10 @@ use Rattle.letters.specs.Letter.{startLetter, letterOf}
 use Rattle.parsing.specs.Line.{lineOf, endBelow, endOf}
 use Rattle.printing.specs.Print.{printed, question, answered}
 use Rattle.printing.proofs.Printing.{decimal-short, length-line}
-use Rattle.line_run.specs.declared.InUse.{InUse}
-use Rattle.line_run.specs.LineRun.{Sheet, Done, sheetOf, startRun, callRun, lineRun}
+use Rattle.sheet_start.specs.declared.InUse.{InUse}
+use Rattle.sheet_start.specs.SheetStart.{Sheet, Done, sheetOf, startRun}
+use Rattle.sheet_call.specs.SheetCall.{callRun}
+use Rattle.line_run.specs.LineRun.{lineRun}
 use Rattle.sheet.specs.Sheet.{longer, linesOf, run, outputOf, outputRoom}
 
 -- at most 35 bytes a line

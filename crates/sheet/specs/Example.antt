@@ -22,11 +22,13 @@ use Rattle.writing.specs.Writing.{writeMarks, writeBurns, writeReply, writeTabl
 use Rattle.server_rows.specs.ServerRows.{startRows, addServerRows, reweightRows}
 use Rattle.servers.specs.Servers.{startReply, startTable, addServerReply, addServerTable, reweightReply, reweightTable}
 use Rattle.history.specs.Machine.{reply, next}
-use Rattle.encoding.specs.ByNumber.{callOf, replyTo, nextBy}
+use Rattle.dispatch.specs.ByNumber.{callOf, replyTo, nextBy}
 use Rattle.letters.specs.Letter.{letters, letterOf, numberFor}
 use Rattle.parsing.specs.Line.{isDigit, digitRun, valueOf, numberAt, spaced, lineBy, hasTwo, last, first, lineOf}
 use Rattle.printing.specs.Print.{digits, decimal, printed, question, answered}
-use Rattle.line_run.specs.LineRun.{startRun, callRun, lineRun}
+use Rattle.sheet_start.specs.SheetStart.{startRun}
+use Rattle.sheet_call.specs.SheetCall.{callRun}
+use Rattle.line_run.specs.LineRun.{lineRun}
 use Rattle.sheet.specs.Sheet.{longer, linesOf, run, outputOf}
 
 -- a line each, LF at its end

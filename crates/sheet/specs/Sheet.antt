@@ -7,7 +7,8 @@ use lib.ListN.{length}
 use lib.Dec.{ltb, eqb}
 use Rattle.parsing.specs.Line.{lineOf}
 use Rattle.printing.specs.Print.{longestLine, question}
-use Rattle.line_run.specs.LineRun.{Sheet, Done, lineRun}
+use Rattle.sheet_start.specs.SheetStart.{Sheet, Done}
+use Rattle.line_run.specs.LineRun.{lineRun}
 
 -- the lines of an input: each LF ends one, and bytes after the last LF are a line too
 unfoldable pub longer : ℕ → List (List ℕ) → List (List ℕ)

@@ -4,7 +4,7 @@ ghost use Prim.Native.Nat.{_≤_};
 ghost use lib.ListN.{length};
 ghost use lib.Seq.{sets};
 ghost use Rattle.sheet.specs.Sheet.{outputOf, outputRoom};
-use line_run::InUse;
+use sheet_start::InUse;
 
 // Bytes of the longest input.
 pub const MAX_INPUT: usize = 65536;

@@ -1,7 +1,7 @@
 -- `call_words::call` meets its contract: by which of the runs is too short, or none.
 use borrow.Author.Needs.{needs}
-use Rattle.encoding.specs.ByNumber.{callAt}
-use Rattle.encoding.proofs.Calling.{called-small}
+use Rattle.dispatch.specs.ByNumber.{callAt}
+use Rattle.dispatch.proofs.Calling.{called-small}
 use Rattle.call_words.proofs.Calling.{table-short, words-short, reply-short, call-done}
 use Rattle.call_words.proofs.call.Statement.{statement}
 use Rattle.call_words.proofs.call.Tie as tie

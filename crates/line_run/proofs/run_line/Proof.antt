@@ -5,8 +5,11 @@ use mathlib.Core.Option.{some}
 use borrow.Author.Needs.{needs}
 use Rattle.parsing.specs.Line.{spaced, lineOf}
 use Rattle.parsing.proofs.Reading.{nothing-read, number-there, inside-line, no-first, no-second, wholeOf, with-second, without-second, more-after, none-after}
-use Rattle.line_run.specs.LineRun.{sheetOf, lineRun}
-use Rattle.line_run.proofs.Running.{shown, asked, not-read}
+use Rattle.sheet_start.specs.SheetStart.{sheetOf}
+use Rattle.sheet_start.proofs.Starting.{shown}
+use Rattle.sheet_call.proofs.Calls.{asked}
+use Rattle.line_run.specs.LineRun.{lineRun}
+use Rattle.line_run.proofs.Running.{not-read}
 use Rattle.line_run.proofs.run_line.Statement.{statement}
 use Rattle.line_run.proofs.run_line.Tie as tie
 
@@ -52,7 +55,7 @@ returns c =
     let l = a .before .before in
     let r = l .before .before in
     let s = r .before .before .before .before .args in
-    asked _ _ _ _ _ _ _ _ (not-read _ _ _ (no-first (s .line .now) (nothing-read _ _ (r .number-after .ensures) (l .enum-told .given .1)))) (a .ask .ensures)
+    asked _ _ _ _ _ _ _ _ (not-read _ _ (no-first (s .line .now) (nothing-read _ _ (r .number-after .ensures) (l .enum-told .given .1)))) (a .ask .ensures)
 
 shared-slice-read-letter : tie.Need-shared-slice-read-letter
 shared-slice-read-letter c =
@@ -87,7 +90,7 @@ returns-2 c =
     let o = h .before .before .before in
     let s = S o .args in
     let e = no-second (s .line .now) _ _ (there o) _ (h .has-two .ensures) (r .before .if1 .taken) (nothing-read _ _ (r .number-after2 .ensures) (l .enum-told2 .given .1)) in
-    asked _ _ _ _ _ _ _ _ (not-read _ _ _ e) (a .ask2 .ensures)
+    asked _ _ _ _ _ _ _ _ (not-read _ _ e) (a .ask2 .ensures)
 
 ask-requires-3 : tie.Need-ask-requires-3
 ask-requires-3 c κs = search needs
@@ -101,7 +104,7 @@ returns-3 c =
     let h = a .before .before in
     let j = h .before in
     let s = S (O j) .args in
-    asked _ _ _ _ _ _ _ _ (not-read _ _ _ (more-after (s .line .now) _ _ (there (O j)) _ _ (whole j) (h .if2 .taken))) (a .ask3 .ensures)
+    asked _ _ _ _ _ _ _ _ (not-read _ _ (more-after (s .line .now) _ _ (there (O j)) _ _ (whole j) (h .if2 .taken))) (a .ask3 .ensures)
 
 line-by-requires : tie.Need-line-by-requires
 line-by-requires c κs = search needs

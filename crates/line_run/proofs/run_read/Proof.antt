@@ -1,8 +1,11 @@
 -- `line_run::run_read` meets its contract: an arm for each kind of line.
 use mathlib.Core.Path.{ap}
 use borrow.Author.Needs.{needs}
-use Rattle.line_run.specs.LineRun.{sheetOf, lineRun}
-use Rattle.line_run.proofs.Running.{shown, asked, not-read}
+use Rattle.sheet_start.specs.SheetStart.{sheetOf}
+use Rattle.sheet_start.proofs.Starting.{shown}
+use Rattle.sheet_call.proofs.Calls.{asked}
+use Rattle.line_run.specs.LineRun.{lineRun}
+use Rattle.line_run.proofs.Running.{not-read}
 use Rattle.line_run.proofs.run_read.Statement.{statement}
 use Rattle.line_run.proofs.run_read.Tie as tie
 
@@ -31,6 +34,7 @@ same-length-2 : tie.Need-same-length-2
 same-length-2 c = search needs
 
 returns : tie.Need-returns
+unfolding lineRun
 returns c =
     let r = c .before .before .before .before in
     let l = r .before .before .before .before in
@@ -45,6 +49,7 @@ same-length-4 : tie.Need-same-length-4
 same-length-4 c = search needs
 
 returns-2 : tie.Need-returns-2
+unfolding lineRun
 returns-2 c =
     let r = c .before .before .before .before in
     let l = r .before .before .before .before in
@@ -58,7 +63,7 @@ same-length-5 c = search needs
 returns-3 : tie.Need-returns-3
 returns-3 c =
     let a = c .before .before in
-    asked _ _ _ _ _ _ _ _ (not-read _ _ _ (a .before .before .enum-told .given .1)) (a .ask .ensures)
+    asked _ _ _ _ _ _ _ _ (not-read _ _ (a .before .before .enum-told .given .1)) (a .ask .ensures)
 
 pub run-read-spec : {M : Type 1} → statement M
 run-read-spec =

@@ -7,7 +7,7 @@ use borrow.Author.Needs.{needs}
 use Rattle.table_words.specs.Words.{tableLength}
 use Rattle.history.specs.Machine.{State}
 use Rattle.encoding.specs.Encoding.{callLength}
-use Rattle.encoding.proofs.Calling.{called-small}
+use Rattle.dispatch.proofs.Calling.{called-small}
 use Rattle.replay.proofs.Replaying.{ReplayedTo, none-to, one-to}
 use Rattle.replay.proofs.run_calls.Statement.{statement}
 use Rattle.replay.proofs.run_calls.Tie as tie

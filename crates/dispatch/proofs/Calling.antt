@@ -21,16 +21,11 @@ use Rattle.writing.proofs.Accepted.{WrittenTo, written-to, table-kept}
 use Rattle.archive.proofs.Small.{Small, addServer-small, reweight-small, write-small, delete-small, lookup-small}
 use Rattle.history.specs.Call.{Call, addServer, reweight, write, delete, lookup, batch}
 use Rattle.history.specs.Machine.{State, reply, next}
-use Rattle.encoding.specs.ByNumber.{callOf, replyTo, nextBy, usedAfter}
+use Rattle.dispatch.specs.ByNumber.{callOf, replyTo, nextBy, usedAfter}
 
 -- the reply, the table and the medium of one call
 abbrev pub Called : State → Option Call → Reply → Table → List ℕ → Type 0
 Called S o r table medium = (r ≡ replyTo S o) × ((table ≡ nextBy S o .table) × (medium ≡ nextBy S o .medium))
-
--- the same of variables that are set to these
-pub called-as : (S : State) (o : Option Call) {r r′ : Reply} {table table′ : Table} {medium medium′ : List ℕ} → r′ ≡ r → table′ ≡ table → medium′ ≡ medium
-    → Called S o r table medium → Called S o r′ table′ medium′
-called-as S o x y z c = (x ∙ c .0, (y ∙ c .1 .0, z ∙ c .1 .1))
 
 -- a number that is no call
 pub no-call : (number subject amount : ℕ) → number ≢ addServerNumber → number ≢ reweightNumber → number ≢ writeNumber → number ≢ deleteNumber → number ≢ lookupNumber → callOf number subject amount ≡ none

@@ -1,12 +1,13 @@
--- `line_run::run_call` meets its contract.
+-- `sheet_call::run_call` meets its contract.
 use mathlib.Core.Path.{refl}
 use borrow.Author.Needs.{needs}
 use borrow.Author.Tests.{not-true, not-false}
-use Rattle.encoding.proofs.Calling.{called-small}
-use Rattle.line_run.specs.LineRun.{sheetOf}
-use Rattle.line_run.proofs.Running.{shown, asked, too-early, call-run}
-use Rattle.line_run.proofs.run_call.Statement.{statement}
-use Rattle.line_run.proofs.run_call.Tie as tie
+use Rattle.dispatch.proofs.Calling.{called-small}
+use Rattle.sheet_start.specs.SheetStart.{sheetOf}
+use Rattle.sheet_start.proofs.Starting.{shown}
+use Rattle.sheet_call.proofs.Calls.{asked, too-early, call-run}
+use Rattle.sheet_call.proofs.run_call.Statement.{statement}
+use Rattle.sheet_call.proofs.run_call.Tie as tie
 
 ask-requires : tie.Need-ask-requires
 ask-requires c κs = search needs
@@ -21,13 +22,13 @@ returns c =
     let s = h .before .before .before .before .args in
     asked _ _ _ _ _ _ _ _ (too-early (s .in-use) (s .medium .now) (s .number) (s .subject) (s .amount) (not-true _ (h .if1 .taken))) (a .ask .ensures)
 
-run-call-requires : tie.Need-run-call-requires
-run-call-requires c κs = search needs
+run-by-value-requires : tie.Need-run-by-value-requires
+run-by-value-requires c κs = search needs
 
 put-reply-requires : tie.Need-put-reply-requires
 put-reply-requires c κs =
     let r = c .before .before .before in
-    (search needs, called-small _ _ _ (r .run-call .ensures .0))
+    (search needs, called-small _ _ _ (r .run-by-value .ensures .0))
 
 same-length-2 : tie.Need-same-length-2
 same-length-2 c = search needs
@@ -44,7 +45,7 @@ returns-2 c =
     let s = h .before .before .before .before .args in
     shown _
     (call-run (s .in-use) (s .medium .now) (s .number) (s .subject) (s .amount) (not-false _ (h .if1 .left)) _ _ _
-    (r .run-call .ensures .0) (r .run-call .ensures .1 .0) (r .run-call .ensures .1 .1))
+    (r .run-by-value .ensures .0) (r .run-by-value .ensures .1 .0) (r .run-by-value .ensures .1 .1))
     _ _ _ _ _ (p .put-reply .ensures .0) (p .put-reply .ensures .1) refl
 
 pub run-call-spec : {M : Type 1} → statement M
@@ -54,7 +55,7 @@ run-call-spec =
     ask-requires
     same-length
     returns
-    run-call-requires
+    run-by-value-requires
     put-reply-requires
     same-length-2
     same-length-3

@@ -1,12 +1,12 @@
--- `encoding::run_call` meets its contract: add_server and reweight by value, every other call on the borrowed columns.
+-- `sheet_call::run_by_value` meets its contract: add_server and reweight by value, every other call on the borrowed columns.
 use mathlib.Core.Logic.{_≢_}
 use native.Mathlib.Omega.{arith}
 use borrow.Author.Needs.{needs}
 use Rattle.replies.specs.Number.{addServerNumber, reweightNumber}
 use Rattle.history.specs.Machine.{State}
-use Rattle.encoding.proofs.Calling.{counts, called-in}
-use Rattle.encoding.proofs.run_call.Statement.{statement}
-use Rattle.encoding.proofs.run_call.Tie as tie
+use Rattle.dispatch.proofs.Calling.{counts, called-in}
+use Rattle.sheet_call.proofs.run_by_value.Statement.{statement}
+use Rattle.sheet_call.proofs.run_by_value.Tie as tie
 
 -- the branch of the calls on borrowed columns, its start, and the state there
 abbrev E : tie.After-run-in → tie.Else1
@@ -47,8 +47,8 @@ returns-2 c =
     let two : a .number ≢ reweightNumber = λ e. omega (arith, E r .if1 .left) in
     called-in (S r) (a .number) (a .subject) (a .amount) (r .run-in .result) (r .run-in .ensures .0) _ _ one two (c .count-in .ensures) (r .run-in .ensures .1)
 
-pub run-call-spec : {M : Type 1} → statement M
-run-call-spec =
+pub run-by-value-spec : {M : Type 1} → statement M
+run-by-value-spec =
     tie.close
     (tie.spec
     run-change-requires

@@ -1,12 +1,12 @@
--- `line_run::blank_all` meets its contract. The invariant: the words passed are blank, the others as lent.
+-- `sheet_start::blank_all` meets its contract. The invariant: the words passed are blank, the others as lent.
 use Prim.Native.Nat.{_-_, _≤_}
 use mathlib.Core.Path.{_≡_, refl}
 use native.Mathlib.Omega.{arith}
 use lib.ListN.{length}
 use borrow.Author.Needs.{needs}
-use Rattle.line_run.proofs.Running.{blanked, none-blanked, one-blanked, all-blanked}
-use Rattle.line_run.proofs.blank_all.Statement.{statement}
-use Rattle.line_run.proofs.blank_all.Tie as tie
+use Rattle.sheet_start.proofs.Starting.{blanked, none-blanked, one-blanked, all-blanked}
+use Rattle.sheet_start.proofs.blank_all.Statement.{statement}
+use Rattle.sheet_start.proofs.blank_all.Tie as tie
 
 abbrev Inv-loop : tie.InvT-loop
 Inv-loop words₀ i₀ words i = (i ≤ length words₀) × (words ≡ blanked words₀ i) × (length words ≡ length words₀)

@@ -29,10 +29,6 @@ callAt words i = callOf (callWord words i numberOffset) (callWord words i subjec
 -- what is no call gets a number that no call gives, and changes nothing
 abbrev pub noCall : ℕ
 noCall = 4294967295
-
--- the answer where words that are lent are too few, another number that no call gives
-abbrev pub tooShort : ℕ
-tooShort = 4294967294
 
 unfoldable pub replyTo : State → Option Call → Reply
 replyTo S none = refused noCall 0

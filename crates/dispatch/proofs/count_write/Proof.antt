@@ -1,13 +1,13 @@
--- `encoding::count_write` meets its contract: the entry is counted where number and refusal say so.
+-- `dispatch::count_write` meets its contract: the entry is counted where number and refusal say so.
 use Prim.Native.Nat.{_<_}
 use native.Mathlib.Omega.{arith}
 use lib.ListN.{length}
 use borrow.Author.Needs.{needs}
 use borrow.Author.Tests.{eq-eqb, ne-eqb}
 use Rattle.lists.specs.Below.{nth}
-use Rattle.encoding.specs.ByNumber.{usedAfter}
-use Rattle.encoding.proofs.count_write.Statement.{statement}
-use Rattle.encoding.proofs.count_write.Tie as tie
+use Rattle.dispatch.specs.ByNumber.{usedAfter}
+use Rattle.dispatch.proofs.count_write.Statement.{statement}
+use Rattle.dispatch.proofs.count_write.Tie as tie
 
 -- what is required of the server that is counted on
 abbrev S : tie.Then2 → tie.Start

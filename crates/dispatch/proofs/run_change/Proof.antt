@@ -1,12 +1,12 @@
--- `encoding::run_change` meets its contract: a return for call 1, for call 2, and for what is no call.
+-- `dispatch::run_change` meets its contract: a return for call 1, for call 2, and for what is no call.
 use mathlib.Core.Path.{refl, _∙_}
 use native.Mathlib.Omega.{arith}
 use borrow.Author.Needs.{needs}
 use Rattle.history.specs.Machine.{reply, next}
-use Rattle.encoding.specs.ByNumber.{callOf, replyTo, nextBy}
-use Rattle.encoding.proofs.Calling.{no-call}
-use Rattle.encoding.proofs.run_change.Statement.{statement}
-use Rattle.encoding.proofs.run_change.Tie as tie
+use Rattle.dispatch.specs.ByNumber.{callOf, replyTo, nextBy}
+use Rattle.dispatch.proofs.Calling.{no-call}
+use Rattle.dispatch.proofs.run_change.Statement.{statement}
+use Rattle.dispatch.proofs.run_change.Tie as tie
 
 add-server-requires : tie.Need-add-server-requires
 add-server-requires c κs = search needs

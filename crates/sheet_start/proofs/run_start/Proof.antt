@@ -1,10 +1,10 @@
--- `line_run::run_start` meets its contract.
+-- `sheet_start::run_start` meets its contract.
 use mathlib.Core.Path.{refl}
 use borrow.Author.Needs.{needs}
-use Rattle.line_run.specs.LineRun.{sheetOf}
-use Rattle.line_run.proofs.Running.{shown, start-refused, start-accepted}
-use Rattle.line_run.proofs.run_start.Statement.{statement}
-use Rattle.line_run.proofs.run_start.Tie as tie
+use Rattle.sheet_start.specs.SheetStart.{sheetOf}
+use Rattle.sheet_start.proofs.Starting.{shown, start-refused, start-accepted}
+use Rattle.sheet_start.proofs.run_start.Statement.{statement}
+use Rattle.sheet_start.proofs.run_start.Tie as tie
 
 start-requires : tie.Need-start-requires
 start-requires c κs = search needs

@@ -1,11 +1,11 @@
--- `encoding::words::store` meets its contract: eight stores.
+-- `encoding::store` meets its contract: eight stores.
 use mathlib.Core.Path.{refl}
 use native.Mathlib.Omega.{arith}
 use borrow.Author.Needs.{needs}
 use lib.ListN.{length-set}
 use Rattle.encoding.specs.Encoding.{withReplyAt}
-use Rattle.encoding.proofs.words.store.Statement.{statement}
-use Rattle.encoding.proofs.words.store.Tie as tie
+use Rattle.encoding.proofs.store.Statement.{statement}
+use Rattle.encoding.proofs.store.Tie as tie
 
 add-replies : tie.Need-add-replies
 add-replies c = search needs

@@ -1,0 +1,104 @@
+// One call, run by its number: add_server and reweight on a table by value, every other call on borrowed columns.
+ghost use mathlib.Core.Path.{_≡_};
+ghost use mathlib.Core.Logic.{_≢_};
+ghost use Prim.Native.Nat.{_<_};
+ghost use lib.ListN.{length};
+ghost use Rattle.limits.specs.Limits.{maxCapacity};
+ghost use Rattle.lists.specs.Below.{nth};
+ghost use Rattle.table.specs.Parts.{tableOf, Whole};
+ghost use Rattle.replies.specs.Number.{addServerNumber, reweightNumber, writeNumber};
+ghost use Rattle.replies.specs.Reply.{refused, replyOfServer};
+ghost use Rattle.dispatch.specs.ByNumber.{callOf, noCall, replyTo, nextBy, usedAfter};
+use replies::ADD_SERVER;
+use replies::DELETE;
+use replies::LOOKUP;
+use replies::REWEIGHT;
+use replies::Reply;
+use replies::WRITE;
+use servers::Changed;
+use table::Columns;
+use table::Shape;
+use table::Table;
+
+// A reply, and the table after the call.
+pub struct Ran {
+    pub reply: Reply,
+    pub table: Table,
+}
+
+fn from_changed(changed: Changed) -> Ran
+    ensures reply { λ r. ⌜ r .reply ≡ replyOfServer (changed .answer) ⌝ }
+    ensures table { λ r. ⌜ r .table ≡ changed .table ⌝ }
+{
+    let answer = changed.answer;
+    let table = changed.table;
+    Ran {
+        reply: replies::server_reply(answer),
+        table,
+    }
+}
+
+// What is no call gets a refusal number that no call gives.
+fn no_call() -> Reply
+    ensures { λ r. ⌜ r ≡ refused noCall 0 ⌝ }
+{
+    Reply {
+        refusal: 4294967295,
+        server: 0,
+        value: 0,
+        opened: 0,
+        invalidated: 0,
+    }
+}
+
+// Runs a call but add_server and reweight on a table whose columns are borrowed. `count_write` then makes the table after it.
+pub fn run_in<'a>(
+    shape: Shape,
+    columns: Columns<'a>,
+    medium: &mut [u32],
+    number: u32,
+    subject: u32,
+    amount: u32,
+) -> Reply
+    requires { ⌜ Whole columns ⌝ }
+    requires { ⌜ (number ≢ addServerNumber) × (number ≢ reweightNumber) ⌝ }
+    ensures reply { λ r. ⌜ r ≡ replyTo (record { table = tableOf shape (columns .entry); medium = now (medium .entry) }) (callOf number subject amount) ⌝ }
+    ensures medium { λ _. ⌜ now (medium .exit) ≡ nextBy (record { table = tableOf shape (columns .entry); medium = now (medium .entry) }) (callOf number subject amount) .medium ⌝ }
+{
+    match number {
+        WRITE => replies::write_reply(writing::write_in(shape, columns, medium, subject, amount)),
+        DELETE => replies::delete_reply(deletion::delete_in(shape, columns, medium, subject)),
+        LOOKUP => replies::lookup_reply(lookup::lookup_in(shape, columns, medium, subject)),
+        _ => no_call(),
+    }
+}
+
+// Counts the entry of an accepted write as used on its server; no other call but add_server and reweight changes the table.
+pub fn count_write(used: &mut [u32], number: u32, reply: Reply)
+    requires { ⌜ (number ≡ writeNumber → reply .refusal ≡ 0 → (reply .server < length (now used)) × (nth (now used) (reply .server) < maxCapacity)) ⌝ }
+    ensures { λ _. ⌜ now (used .exit) ≡ usedAfter (now (used .entry)) number reply ⌝ }
+{
+    if number == WRITE {
+        if reply.refusal == 0 {
+            let server = reply.server;
+            upkeep::count_entry(used, server);
+        }
+    }
+}
+
+// Runs add_server or reweight, which take the table by value; 0 is no call.
+pub fn run_change(table: Table, medium: &mut [u32], number: u32, subject: u32, amount: u32) -> Ran
+    requires { ⌜ number < writeNumber ⌝ }
+    ensures reply { λ r. ⌜ r .reply ≡ replyTo (record { table = table; medium = now (medium .entry) }) (callOf number subject amount) ⌝ }
+    ensures table { λ r. ⌜ r .table ≡ nextBy (record { table = table; medium = now (medium .entry) }) (callOf number subject amount) .table ⌝ }
+    ensures medium { λ _. ⌜ now (medium .exit) ≡ nextBy (record { table = table; medium = now (medium .entry) }) (callOf number subject amount) .medium ⌝ }
+{
+    match number {
+        ADD_SERVER => from_changed(servers::add_server(table, medium, amount)),
+        REWEIGHT => from_changed(servers::reweight(table, subject as usize, amount)),
+        _ => Ran {
+            reply: no_call(),
+            table,
+        },
+    }
+}
