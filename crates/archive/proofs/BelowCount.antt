@@ -32,8 +32,8 @@ use Rattle.replies.specs.Reply.{onServer}
 use Rattle.replies.proofs.Refusals.{more-same, first-same, settle-both, reply-same}
 use Rattle.search.specs.Search.{Search}
 use Rattle.search.specs.Opened.{lowest, opens, SameOpened}
-use Rattle.checks.specs.Ready.{short, readyRows}
-use Rattle.checks.proofs.Passed.{ready-same, ready-numbered, ready-tests, ready-accepted}
+use Rattle.checks.specs.Ready.{short, askedRows}
+use Rattle.checks.proofs.Passed.{asked-same, asked-numbered, asked-tests, asked-ready}
 use Rattle.lookup.specs.Lookup.{lookupRows, lookupReply}
 use Rattle.lookup.proofs.Passed.{lookup-accepted}
 use Rattle.search.proofs.Searches.{reads-same}
@@ -131,27 +131,27 @@ module _ (t u : Table) (g : AgreeBelow t u) where
       ∷ invalidations replaced marks)
       (same-entry id l) (write-marks m id)
 
-  ready-rows : (m : List ℕ) (outside : Bool) → firstOf (readyRows t m outside) ≡ firstOf (readyRows u m outside)
-  ready-rows m outside = ready-same t u m m outside (agree-sound t u g) (g .count) (same-short m)
+  asked-rows : (m : List ℕ) (tenant id : ℕ) (outside : Bool) → firstOf (askedRows t m tenant id outside) ≡ firstOf (askedRows u m tenant id outside)
+  asked-rows m tenant id outside = asked-same t u m m tenant id outside (agree-sound t u g) (g .count) (same-short m)
 
-  write-rows : (m : List ℕ) (id value : ℕ) → firstOf (writeRows t m id value) ≡ firstOf (writeRows u m id value)
+  write-rows : (m : List ℕ) (tenant id value : ℕ) → firstOf (writeRows t m tenant id value) ≡ firstOf (writeRows u m tenant id value)
   unfolding writeRows entryRows
-  write-rows m id value = more-same _ _ _ _ (ready-numbered t m _) (ready-numbered u m _) (ready-rows m _) (λ z.
-      let some = some-server t (ready-tests t m _ z .none) in
+  write-rows m tenant id value = more-same _ _ _ _ (asked-numbered t m tenant id _) (asked-numbered u m tenant id _) (asked-rows m tenant id _) (λ z.
+      let some = some-server t (asked-tests t m tenant id _ z .none) in
       first-same 6 _ _ _ _ (ap₂ eqb (same-used id some) (g .capacity)) (λ _.
       first-same 7 _ _ _ _ (rw (same-entry id some)) (λ _. refl)))
 
-  delete-rows : (m : List ℕ) (id : ℕ) → firstOf (deleteRows t m id) ≡ firstOf (deleteRows u m id)
+  delete-rows : (m : List ℕ) (tenant id : ℕ) → firstOf (deleteRows t m tenant id) ≡ firstOf (deleteRows u m tenant id)
   unfolding deleteRows
-  delete-rows m id = more-same _ _ _ _ (ready-numbered t m _) (ready-numbered u m _) (ready-rows m _) (λ _.
+  delete-rows m tenant id = more-same _ _ _ _ (asked-numbered t m tenant id _) (asked-numbered u m tenant id _) (asked-rows m tenant id _) (λ _.
       first-same 8 _ _ _ _ (ap not (deleted-some t m id ∙ ap (λ (l : List ℕ). not (eqb (length l) 0)) (delete-marks m id) ∙ sym (deleted-some u m id))) (λ _. refl))
 
   -- calls that leave the table
 
-  pub delete-below : (m : List ℕ) (id : ℕ) → (deleteReply t m id ≡ deleteReply u m id) × (deleteMedium t m id ≡ deleteMedium u m id)
+  pub delete-below : (m : List ℕ) (tenant id : ℕ) → (deleteReply t m tenant id ≡ deleteReply u m tenant id) × (deleteMedium t m tenant id ≡ deleteMedium u m tenant id)
   unfolding deleteReply deleteMedium
-  delete-below m id =
-      let e = delete-rows m id in (
+  delete-below m tenant id =
+      let e = delete-rows m tenant id in (
         reply-same _ _ e _ _ (λ _. ap (λ (l : List ℕ). onServer 0 (length l)) (delete-marks m id)),
         settle-both _ _ e (_≡_ {A = List ℕ}) _ _ _ _ (λ _. ap (λ (l : List ℕ). burnAll m (invalidations deleted l)) (delete-marks m id)) refl,
       )
@@ -168,26 +168,26 @@ module _ (t u : Table) (g : AgreeBelow t u) where
     words = λ k a l o b c. refl;
   }
 
-  pub lookup-below : (m : List ℕ) (id : ℕ) → lookupReply t m id ≡ lookupReply u m id
+  pub lookup-below : (m : List ℕ) (tenant id : ℕ) → lookupReply t m tenant id ≡ lookupReply u m tenant id
   unfolding lookupReply lookupRows
-  lookup-below m id = byBool (sound t)
-      (λ s. opened-by-values t u m m id s (sym (agree-sound t u g) ∙ s) (same-servers m id))
-      (λ s. reply-same _ _ (ready-rows m _) _ _ (λ z. absurd (true-not-false (ready-accepted t m _ z .isSound) s)))
+  lookup-below m tenant id = byBool (sound t)
+      (λ s. opened-by-values t u m m id s (sym (agree-sound t u g) ∙ s) (same-servers m id) tenant)
+      (λ s. reply-same _ _ (asked-rows m tenant id _) _ _ (λ z. absurd (true-not-false (asked-ready t m tenant id _ z .isSound) s)))
 
-  opens-below : (m : List ℕ) (id k : ℕ) → k < t .count → lookupOpens t m id k ≡ lookupOpens u m id k
+  opens-below : (m : List ℕ) (tenant id k : ℕ) → k < t .count → lookupOpens t m tenant id k ≡ lookupOpens u m tenant id k
   unfolding lookupOpens opens lookupRows
-  opens-below m id k l = settle-both (lookupRows t m id) (lookupRows u m id) (ready-rows m _) (_≡_ {A = Bool}) _ _ false false
+  opens-below m tenant id k l = settle-both (lookupRows t m tenant id) (lookupRows u m tenant id) (asked-rows m tenant id _) (_≡_ {A = Bool}) _ _ false false
       (λ z.
-      let s = lookup-accepted t m id z .isSound in
+      let s = lookup-accepted t m tenant id z .isSound in
       ap₂ (λ (x : Search) (b : Bool). leb (lowest (x .met)) k && b) (same-met t u m m id s (sym (agree-sound t u g) ∙ s) (same-servers m id)) (same-reads id k l))
       refl
 
-  pub batch-below : (m ids : List ℕ) → batchReply t m ids ≡ batchReply u m ids
+  pub batch-below : (m : List ℕ) (tenant : ℕ) (ids : List ℕ) → batchReply t m tenant ids ≡ batchReply u m tenant ids
   unfolding batchReply openedAt batchRows
-  batch-below m ids = batch-cong ids (batchRows t ids) (batchRows u ids) (first-same 1 _ _ _ _ (ap (λ (b : Bool). tooLong ids && b) same-sound) (λ _. refl)) (openedAt t m ids) (openedAt u m ids) (t .count) (u .count) (g .count)
-      (λ i k l. opens-below m (nth ids i) k l) _ _ _ _ _ _
+  batch-below m tenant ids = batch-cong ids (batchRows t ids) (batchRows u ids) (first-same 1 _ _ _ _ (ap (λ (b : Bool). tooLong ids && b) same-sound) (λ _. refl)) (openedAt t m tenant ids) (openedAt u m tenant ids) (t .count) (u .count) (g .count)
+      (λ i k l. opens-below m tenant (nth ids i) k l) _ _ _ _ _ _
       (λ i.
-      let e = lookup-below m (nth ids i) in
+      let e = lookup-below m tenant (nth ids i) in
       (ap (λ (r : Reply). r .refusal) e, ap (λ (r : Reply). r .value) e, ap (λ (r : Reply). r .opened) e))
 
 module _ (t u : Table) (a : Alike t u) where
@@ -221,22 +221,22 @@ module _ (t u : Table) (a : Alike t u) where
             }) a,
       )
 
-  pub write-below : (m : List ℕ) (id value : ℕ)
-      → (writeReply t m id value ≡ writeReply u m id value)
-      × Alike (writeTable t m id value) (writeTable u m id value)
-      × (writeMedium t m id value ≡ writeMedium u m id value)
+  pub write-below : (m : List ℕ) (tenant id value : ℕ)
+      → (writeReply t m tenant id value ≡ writeReply u m tenant id value)
+      × Alike (writeTable t m tenant id value) (writeTable u m tenant id value)
+      × (writeMedium t m tenant id value ≡ writeMedium u m tenant id value)
   unfolding writeReply writeTable writeMedium
-  write-below m id value =
+  write-below m tenant id value =
       let g = a .agree in
-      let e = write-rows t u g m id value in (
+      let e = write-rows t u g m tenant id value in (
         reply-same _ _ e _ _ (λ _. ap₂ (λ (k : ℕ) (l : List ℕ). onServer k (length l)) (same-target t u g id) (write-marks t u g m id)),
         settle-both _ _ e Alike _ _ t u (λ z.
-            let f = write-accepted t m id value z in
+            let f = write-accepted t m tenant id value z in
             record {
               agree = subst (λ (k : ℕ). AgreeBelow (withEntry t (target t id)) (withEntry u k)) (same-target t u g id)
                   (agree-withEntry t u (target t id) (a .one) (a .other) (few t (f .isSound)) (f .there) g);
               one = withEntry-arrays t (target t id) (a .one);
               other = withEntry-arrays u (target u id) (a .other);
             }) a,
-        settle-both _ _ e (_≡_ {A = List ℕ}) _ _ _ _ (λ z. ap (burnAll m) (write-burns t u g m id value (omega (arith, write-accepted t m id value z .there)))) refl,
+        settle-both _ _ e (_≡_ {A = List ℕ}) _ _ _ _ (λ z. ap (burnAll m) (write-burns t u g m id value (omega (arith, write-accepted t m tenant id value z .there)))) refl,
       )

@@ -1,4 +1,5 @@
--- The numbers of each call's rows rise, so that the first row that applies has the lowest number that applies.
+-- The numbers of the rows rise in start, add_server, reweight and what refuses a batch as a whole, so that there the first row that
+-- applies has the lowest number that applies. It is not so in write, delete and lookup, where 11 comes right after 2.
 -- Assumes nothing.
 use Prim.Native.Nat.{ℕ}
 use mathlib.Core.Path.{_≡_, refl}
@@ -6,10 +7,6 @@ use mathlib.Core.Bool.{true}
 use mathlib.Core.List.{List}
 use Rattle.table.specs.declared.Table.{Table}
 use Rattle.replies.specs.Refusal.{rising}
-use Rattle.checks.specs.Ready.{readyRows}
-use Rattle.lookup.specs.Lookup.{lookupRows}
-use Rattle.deletion.specs.Deletion.{deleteRows}
-use Rattle.planning.specs.WriteRows.{entryRows, writeRows}
 use Rattle.server_rows.specs.ServerRows.{startRows, addServerRows, reweightRows}
 use Rattle.batch.specs.Batch.{batchRows}
 
@@ -25,18 +22,6 @@ module _ (t : Table) where
   pub reweight-rises : (server weight : ℕ) → rising 0 (reweightRows t server weight) ≡ true
   unfolding rising reweightRows
   reweight-rises server weight = refl
-
-  pub write-rises : (m : List ℕ) (id value : ℕ) → rising 0 (writeRows t m id value) ≡ true
-  unfolding rising writeRows entryRows readyRows
-  write-rises m id value = refl
-
-  pub delete-rises : (m : List ℕ) (id : ℕ) → rising 0 (deleteRows t m id) ≡ true
-  unfolding rising deleteRows readyRows
-  delete-rises m id = refl
-
-  pub lookup-rises : (m : List ℕ) (id : ℕ) → rising 0 (lookupRows t m id) ≡ true
-  unfolding rising lookupRows readyRows
-  lookup-rises m id = refl
 
   pub batch-rises : (ids : List ℕ) → rising 0 (batchRows t ids) ≡ true
   unfolding rising batchRows

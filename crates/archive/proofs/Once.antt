@@ -31,18 +31,18 @@ marks-once : (t : Table) (m : List ℕ) (id content from : ℕ) (w : List ℕ) (
     → nth (burnAll w (invalidations content (marksFrom t m id from))) a ≡ nth w a
 marks-once t m id content from w a f = invalidations-off content w _ a (λ d. f (marks-blank (t .capacity) (usedOf t) m id (λ k. leb from k && reads t id k) (t .count) a d))
 
-pub write-once : (t : Table) (m : List ℕ) (id value a : ℕ) → nth m a ≢ blank → nth (writeMedium t m id value) a ≡ nth m a
+pub write-once : (t : Table) (m : List ℕ) (tenant id value a : ℕ) → nth m a ≢ blank → nth (writeMedium t m tenant id value) a ≡ nth m a
 unfolding writeMedium writeBurns writeMarks burnAll
-write-once t m id value a f = settle-either (writeRows t m id value) _ m (λ (w : List ℕ). nth w a ≡ nth m a)
+write-once t m tenant id value a f = settle-either (writeRows t m tenant id value) _ m (λ (w : List ℕ). nth w a ≡ nth m a)
     (λ z.
     let k = target t id in
     let entry = entryAt (t .capacity) k (usedOf t k) in
-    let off : (i : ℕ) → i < 3 → a ≢ entry + i = λ i l e. f (ap (nth m) e ∙ blank-at m entry 3 (write-accepted t m id value z .isBlank) i l) in
+    let off : (i : ℕ) → i < 3 → a ≢ entry + i = λ i l e. f (ap (nth m) e ∙ blank-at m entry 3 (write-accepted t m tenant id value z .isBlank) i l) in
     marks-once t m id replaced (target t id) _ a f
     ∙ getD-set-other (set m (entry + 1) (valueWord value)) entry a (idWord id) 0 (rw add-zero at (off 0 (omega arith)))
     ∙ getD-set-other m (entry + 1) a (valueWord value) 0 (off 1 (omega arith)))
     refl
 
-pub delete-once : (t : Table) (m : List ℕ) (id a : ℕ) → nth m a ≢ blank → nth (deleteMedium t m id) a ≡ nth m a
+pub delete-once : (t : Table) (m : List ℕ) (tenant id a : ℕ) → nth m a ≢ blank → nth (deleteMedium t m tenant id) a ≡ nth m a
 unfolding deleteMedium deleteMarks
-delete-once t m id a f = settle-either (deleteRows t m id) _ m (λ (w : List ℕ). nth w a ≡ nth m a) (λ z. marks-once t m id deleted 0 m a f) refl
+delete-once t m tenant id a f = settle-either (deleteRows t m tenant id) _ m (λ (w : List ℕ). nth w a ≡ nth m a) (λ z. marks-once t m id deleted 0 m a f) refl

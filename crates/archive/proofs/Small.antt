@@ -23,7 +23,7 @@ use Rattle.replies.specs.Refusal.{Row, firstOf}
 use Rattle.replies.specs.declared.Reply.{Reply}
 use Rattle.replies.specs.Reply.{onServer, replyBy}
 use Rattle.replies.proofs.Refusals.{settle-either}
-use Rattle.checks.proofs.Passed.{ready-accepted}
+use Rattle.checks.proofs.Passed.{asked-ready}
 use Rattle.search.specs.Search.{Place, searchFor}
 use Rattle.lookup.specs.Lookup.{lookupRows, metReply, lookupReply}
 use Rattle.search.specs.Opened.{opens}
@@ -79,15 +79,15 @@ module _ (t : Table) where
       let f = sound-facts t (a .isSound) in
       on-small server 0 (omega arith) (omega arith))
 
-  pub write-small : (m : List ℕ) (id value : ℕ) → Small (writeReply t m id value)
+  pub write-small : (m : List ℕ) (tenant id value : ℕ) → Small (writeReply t m tenant id value)
   unfolding writeReply writeMarks
-  write-small m id value = reply-small (writeRows t m id value) _ (λ z.
-      let a = write-accepted t m id value z in
+  write-small m tenant id value = reply-small (writeRows t m tenant id value) _ (λ z.
+      let a = write-accepted t m tenant id value z in
       on-small (target t id) _ (omega arith) (marks-small m id _ (a .isSound)))
 
-  pub delete-small : (m : List ℕ) (id : ℕ) → Small (deleteReply t m id)
+  pub delete-small : (m : List ℕ) (tenant id : ℕ) → Small (deleteReply t m tenant id)
   unfolding deleteReply deleteMarks
-  delete-small m id = reply-small (deleteRows t m id) _ (λ z. on-small 0 _ (omega arith) (marks-small m id _ (ready-accepted t m _ (delete-ready t m id z) .isSound)))
+  delete-small m tenant id = reply-small (deleteRows t m tenant id) _ (λ z. on-small 0 _ (omega arith) (marks-small m id _ (asked-ready t m tenant id _ (delete-ready t m tenant id z) .isSound)))
 
   met-small : (m : List ℕ) (n : ℕ) → n < 4294967296 → (o : Option Place) → Small (metReply (t .capacity) m n o)
   unfolding metReply
@@ -96,8 +96,8 @@ module _ (t : Table) where
       (λ e. rw e (record { server = omega arith; opened = l; invalidated = omega arith }))
       (λ e. rw e (record { server = omega arith; opened = l; invalidated = omega arith }))
 
-  pub lookup-small : (m : List ℕ) (id : ℕ) → Small (lookupReply t m id)
+  pub lookup-small : (m : List ℕ) (tenant id : ℕ) → Small (lookupReply t m tenant id)
   unfolding lookupReply
-  lookup-small m id = reply-small (lookupRows t m id) _ (λ z.
-      let f = sound-facts t (lookup-accepted t m id z .isSound) in
+  lookup-small m tenant id = reply-small (lookupRows t m tenant id) _ (λ z.
+      let f = sound-facts t (lookup-accepted t m tenant id z .isSound) in
       met-small m _ (omega (arith, opened-are t m id .number, countBelow-le (opens t m id) (t .count))) (searchFor t m id .met))

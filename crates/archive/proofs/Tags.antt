@@ -20,13 +20,13 @@ unfolding invalidations
 marks-tagged content l [] b d = absurd (List·Memᴰ·not-nil d)
 marks-tagged content l (a ∷ rest) b d = ⊎-elim (λ e. rw e (omega arith)) (marks-tagged content l rest b) (List·Memᴰ·cases-cons d)
 
-pub write-tagged : (t : Table) (m : List ℕ) (id value : ℕ) → firstOf (writeRows t m id value) ≡ 0 → (b : Burn) → List·Memᴰ b (writeBurns t m id value) → tagOf (b .word) < 3
+pub write-tagged : (t : Table) (m : List ℕ) (tenant id value : ℕ) → firstOf (writeRows t m tenant id value) ≡ 0 → (b : Burn) → List·Memᴰ b (writeBurns t m id value) → tagOf (b .word) < 3
 unfolding writeBurns
-write-tagged t m id value z b d =
-    let a = write-accepted t m id value z in
+write-tagged t m tenant id value z b d =
+    let a = write-accepted t m tenant id value z in
     ⊎-elim
     (λ e. rw e (omega (arith, a .small)))
-    (λ r. ⊎-elim (λ e. rw e (omega (arith, a .idSmall))) (λ q. omega (arith, marks-tagged replaced (omega arith) (writeMarks t m id) b q)) (List·Memᴰ·cases-cons r))
+    (λ r. ⊎-elim (λ e. rw e (omega (arith, a .asked .small))) (λ q. omega (arith, marks-tagged replaced (omega arith) (writeMarks t m id) b q)) (List·Memᴰ·cases-cons r))
     (List·Memᴰ·cases-cons d)
 
 pub delete-tagged : (t : Table) (m : List ℕ) (id : ℕ) (b : Burn) → List·Memᴰ b (invalidations deleted (deleteMarks t m id)) → tagOf (b .word) < 3

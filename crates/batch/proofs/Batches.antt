@@ -10,10 +10,10 @@ use native.Mathlib.Omega.{arith}
 use lib.ListN.{length}
 use lib.Dec.{leb, eqb}
 use borrow.Author.Tests.{eqb-true, eqb-false, eq-eqb, le-leb, lt-leb}
-use Rattle.limits.specs.Limits.{contentRange}
 use Rattle.lists.specs.Below.{nth, countBelow, someBelow}
 use Rattle.lists.proofs.Tests.{byBool}
 use Rattle.lists.proofs.Below.{countBelow-cong, countBelow-none, someBelow-in, someBelow-none}
+use Rattle.tenants.specs.Tenant.{outOfRange, ofAnother}
 use Rattle.placement.specs.Rule.{readable, takes}
 use Rattle.medium.specs.Word.{tagOf}
 use Rattle.medium.specs.Entry.{valueAt}
@@ -27,7 +27,7 @@ use Rattle.replies.proofs.Refusals.{settle-yes, settle-no}
 use Rattle.replies.proofs.Answers.{reply-done}
 use Rattle.search.specs.Search.{Place, Search, lastLive, opening, searchBelow, searchFor}
 use Rattle.search.specs.Opened.{lowest, opens}
-use Rattle.checks.specs.Ready.{readyRows, short}
+use Rattle.checks.specs.Ready.{readyRows, askedRows, short}
 use Rattle.lookup.specs.Lookup.{lookupRows, metReply, lookupReply}
 use Rattle.lookup.proofs.ServerZero.{ends-there}
 use Rattle.search.proofs.Searches.{search-cases, search-low, opened-are}
@@ -55,112 +55,109 @@ module _ (capacity : ℕ) (m : List ℕ) where
   met-not-absent a p = byBool (eqb (tagOf (nth m (valueAt capacity (p .server) (p .entry)))) 1)
       (λ e. rw e (λ z. omega arith)) (λ e. rw e (λ z. omega arith))
 
--- what the rows of a lookup give, by their tests: soundness, range, a server, enough words
-number : Bool → Bool → Bool → Bool → ℕ
-number a b c d = cond a 1 (cond b 2 (cond c 3 (cond d 5 0)))
+-- what the rows of a lookup give, by their tests: soundness, range, tenant, a server, enough words
+number : Bool → Bool → Bool → Bool → Bool → ℕ
+number a b o c d = cond a 1 (cond b 2 (cond o 11 (cond c 3 (cond d 5 0))))
 
--- the tests of an id against those of id 0, which is in range
-tests-say : (a b c d : Bool)
-    → (cond (eqb (number a false c d) 1) 1 (cond b 2 (absentSoFar (number a false c d))) ≡ absentSoFar (number a b c d))
-    × (number a b c d ≡ 0 → number a false c d ≡ 0)
-    × (number a b c d ≢ 8)
+-- the tests of an id against those of one that is in range and the caller's own
+tests-say : (a b o c d : Bool)
+    → (cond (eqb (number a false false c d) 1) 1 (cond b 2 (cond o 11 (absentSoFar (number a false false c d)))) ≡ absentSoFar (number a b o c d))
+    × (number a b o c d ≡ 0 → number a false false c d ≡ 0)
+    × (number a b o c d ≢ 8)
 unfolding number absentSoFar
-tests-say true b c d = (refl, λ z. absurd (omega arith), λ z. omega arith)
-tests-say false true true d = (refl, λ z. absurd (omega arith), λ z. omega arith)
-tests-say false true false true = (refl, λ z. absurd (omega arith), λ z. omega arith)
-tests-say false true false false = (refl, λ z. refl, λ z. omega arith)
-tests-say false false true d = (refl, λ z. absurd (omega arith), λ z. omega arith)
-tests-say false false false true = (refl, λ z. absurd (omega arith), λ z. omega arith)
-tests-say false false false false = (refl, λ z. refl, λ z. omega arith)
+tests-say true b o c d = (refl, λ z. absurd (omega arith), λ z. omega arith)
+tests-say false b o true d = byBool b (λ e. rw e (refl, λ z. absurd (omega arith), λ z. omega arith)) (λ e. rw e (byBool o (λ f. rw f (refl, λ z. absurd (omega arith), λ z. omega arith)) (λ f. rw f (refl, λ z. absurd (omega arith), λ z. omega arith))))
+tests-say false b o false true = byBool b (λ e. rw e (refl, λ z. absurd (omega arith), λ z. omega arith)) (λ e. rw e (byBool o (λ f. rw f (refl, λ z. absurd (omega arith), λ z. omega arith)) (λ f. rw f (refl, λ z. absurd (omega arith), λ z. omega arith))))
+tests-say false b o false false = byBool b (λ e. rw e (refl, λ z. refl, λ z. omega arith)) (λ e. rw e (byBool o (λ f. rw f (refl, λ z. refl, λ z. omega arith)) (λ f. rw f (refl, λ z. refl, λ z. omega arith))))
 
-module _ (t : Table) (m : List ℕ) (id : ℕ) where
+module _ (t : Table) (m : List ℕ) (tenant id : ℕ) where
   -- the search has met no entry so far, and goes on below k
   pub record Pending (k : ℕ) (p : Progress) : Type 0 where
     pub absent : p .refusal ≡ 8
     pub noValue : p .value ≡ 0
-    pub ready : firstOf (lookupRows t m id) ≡ 0
+    pub ready : firstOf (lookupRows t m tenant id) ≡ 0
     pub left : searchFor t m id .met ≡ searchBelow t m id k .met
 
   -- refused before its search, or ended by an entry: its reply stands, and no server below k is opened
   pub record Ended (k : ℕ) (p : Progress) : Type 0 where
     pub notAbsent : p .refusal ≢ 8
-    pub refusal : p .refusal ≡ lookupReply t m id .refusal
-    pub value : p .value ≡ lookupReply t m id .value
-    pub closed : (j : ℕ) → j < k → lookupOpens t m id j ≡ false
+    pub refusal : p .refusal ≡ lookupReply t m tenant id .refusal
+    pub value : p .value ≡ lookupReply t m tenant id .value
+    pub closed : (j : ℕ) → j < k → lookupOpens t m tenant id j ≡ false
 
   pub record DoneFrom (k : ℕ) (p : Progress) : Type 0 where
-    pub tally : Tally (lookupOpens t m id) (t .count) k (p .opened) (p .end)
+    pub tally : Tally (lookupOpens t m tenant id) (t .count) k (p .opened) (p .end)
     pub status : Pending k p ⊎ Ended k p
 
   -- the servers that it opens are those of its search where it comes to that, and else none
-  opens-ready : firstOf (lookupRows t m id) ≡ 0 → (k : ℕ) → lookupOpens t m id k ≡ opens t m id k
+  opens-ready : firstOf (lookupRows t m tenant id) ≡ 0 → (k : ℕ) → lookupOpens t m tenant id k ≡ opens t m id k
   unfolding lookupOpens
-  opens-ready z k = settle-yes (lookupRows t m id) (opens t m id k) false z
+  opens-ready z k = settle-yes (lookupRows t m tenant id) (opens t m id k) false z
 
-  opens-none : firstOf (lookupRows t m id) ≢ 0 → (k : ℕ) → lookupOpens t m id k ≡ false
+  opens-none : firstOf (lookupRows t m tenant id) ≢ 0 → (k : ℕ) → lookupOpens t m tenant id k ≡ false
   unfolding lookupOpens
-  opens-none z k = settle-no (lookupRows t m id) (opens t m id k) false z
+  opens-none z k = settle-no (lookupRows t m tenant id) (opens t m id k) false z
 
   -- the ids for which no server is opened are those refused before their search
-  pub opened-or-refused : someBelow (lookupOpens t m id) (t .count) ≡ eqb (firstOf (lookupRows t m id)) 0
-  opened-or-refused = byBool (eqb (firstOf (lookupRows t m id)) 0)
+  pub opened-or-refused : someBelow (lookupOpens t m tenant id) (t .count) ≡ eqb (firstOf (lookupRows t m tenant id)) 0
+  opened-or-refused = byBool (eqb (firstOf (lookupRows t m tenant id)) 0)
       (λ e.
-      let z = eqb-true (firstOf (lookupRows t m id)) 0 e in
-      let w = ends-there t m id z in
-      someBelow-in (lookupOpens t m id) (t .count) _ (w .0) (opens-ready z _ ∙ w .1) ∙ sym e)
-      (λ e. someBelow-none (lookupOpens t m id) (t .count) (λ k l. opens-none (eqb-false (firstOf (lookupRows t m id)) 0 e) k) ∙ sym e)
+      let z = eqb-true (firstOf (lookupRows t m tenant id)) 0 e in
+      let w = ends-there t m tenant id z in
+      someBelow-in (lookupOpens t m tenant id) (t .count) _ (w .0) (opens-ready z _ ∙ w .1) ∙ sym e)
+      (λ e. someBelow-none (lookupOpens t m tenant id) (t .count) (λ k l. opens-none (eqb-false (firstOf (lookupRows t m tenant id)) 0 e) k) ∙ sym e)
 
   -- where the search meets an entry, no server below is opened
-  closed-below : (p : Place) → firstOf (lookupRows t m id) ≡ 0 → searchFor t m id .met ≡ some p → (i : ℕ) → i < p .server → lookupOpens t m id i ≡ false
+  closed-below : (p : Place) → firstOf (lookupRows t m tenant id) ≡ 0 → searchFor t m id .met ≡ some p → (i : ℕ) → i < p .server → lookupOpens t m tenant id i ≡ false
   unfolding opens lowest
   closed-below p z e i b = opens-ready z i ∙ rw (e, lt-leb (p .server) i b)
 
-  reply-met : (o : Option Place) → firstOf (lookupRows t m id) ≡ 0 → searchFor t m id .met ≡ o
-      → lookupReply t m id ≡ metReply (t .capacity) m (length (searchFor t m id .opened)) o
+  reply-met : (o : Option Place) → firstOf (lookupRows t m tenant id) ≡ 0 → searchFor t m id .met ≡ o
+      → lookupReply t m tenant id ≡ metReply (t .capacity) m (length (searchFor t m id .opened)) o
   unfolding lookupReply
-  reply-met o z e = reply-done (lookupRows t m id) z _ ∙ ap (metReply (t .capacity) m (length (searchFor t m id .opened))) e
+  reply-met o z e = reply-done (lookupRows t m tenant id) z _ ∙ ap (metReply (t .capacity) m (length (searchFor t m id .opened))) e
 
   -- the opened count of a single lookup is the number of the servers that it opens
-  reply-opened : lookupReply t m id .opened ≡ countBelow (lookupOpens t m id) (t .count)
+  reply-opened : lookupReply t m tenant id .opened ≡ countBelow (lookupOpens t m tenant id) (t .count)
   unfolding lookupReply replyBy settle
-  reply-opened = byBool (eqb (firstOf (lookupRows t m id)) 0)
+  reply-opened = byBool (eqb (firstOf (lookupRows t m tenant id)) 0)
       (λ e.
-      let z = eqb-true (firstOf (lookupRows t m id)) 0 e in
+      let z = eqb-true (firstOf (lookupRows t m tenant id)) 0 e in
       rw e (met-opened (t .capacity) m (length (searchFor t m id .opened)) (searchFor t m id .met)
       ∙ opened-are t m id .number
-      ∙ countBelow-cong (opens t m id) (lookupOpens t m id) (t .count) (λ k l. sym (opens-ready z k))))
-      (λ e. rw e (sym (countBelow-none (lookupOpens t m id) (t .count) (λ k l. opens-none (eqb-false (firstOf (lookupRows t m id)) 0 e) k))))
+      ∙ countBelow-cong (opens t m id) (lookupOpens t m tenant id) (t .count) (λ k l. sym (opens-ready z k))))
+      (λ e. rw e (sym (countBelow-none (lookupOpens t m tenant id) (t .count) (λ k l. opens-none (eqb-false (firstOf (lookupRows t m tenant id)) 0 e) k))))
 
   -- before the first server: what the tests say of an id in range tells what they say of this one
-  first-number : firstRefusal (firstOf (readyRows t m false)) id ≡ absentSoFar (firstOf (lookupRows t m id))
-  unfolding lookupRows readyRows firstOf firstRefusal number
-  first-number = tests-say (not (sound t)) (leb contentRange id) (eqb (t .count) 0) (short t m) .0
+  first-number : firstRefusal (firstOf (readyRows t m false false)) tenant id ≡ absentSoFar (firstOf (lookupRows t m tenant id))
+  unfolding lookupRows askedRows readyRows firstOf firstRefusal number
+  first-number = tests-say (not (sound t)) (outOfRange tenant id) (ofAnother tenant id) (eqb (t .count) 0) (short t m) .0
 
-  ready-alike : firstOf (lookupRows t m id) ≡ 0 → firstOf (readyRows t m false) ≡ 0
-  unfolding lookupRows readyRows firstOf number
-  ready-alike = tests-say (not (sound t)) (leb contentRange id) (eqb (t .count) 0) (short t m) .1
+  ready-alike : firstOf (lookupRows t m tenant id) ≡ 0 → firstOf (readyRows t m false false) ≡ 0
+  unfolding lookupRows askedRows readyRows firstOf number
+  ready-alike = tests-say (not (sound t)) (outOfRange tenant id) (ofAnother tenant id) (eqb (t .count) 0) (short t m) .1
 
-  pub refused-opens : firstOf (readyRows t m false) ≢ 0 → (k : ℕ) → lookupOpens t m id k ≡ false
+  pub refused-opens : firstOf (readyRows t m false false) ≢ 0 → (k : ℕ) → lookupOpens t m tenant id k ≡ false
   refused-opens z k = opens-none (λ e. z (ready-alike e)) k
 
-  not-absent : firstOf (lookupRows t m id) ≢ 8
-  unfolding lookupRows readyRows firstOf number
-  not-absent = tests-say (not (sound t)) (leb contentRange id) (eqb (t .count) 0) (short t m) .2
+  not-absent : firstOf (lookupRows t m tenant id) ≢ 8
+  unfolding lookupRows askedRows readyRows firstOf number
+  not-absent = tests-say (not (sound t)) (outOfRange tenant id) (ofAnother tenant id) (eqb (t .count) 0) (short t m) .2
 
-  pub first-done : DoneFrom (settle (readyRows t m false) (t .count) 0)
-      (record { refusal = firstRefusal (firstOf (readyRows t m false)) id; value = 0; opened = 0; end = 0 })
+  pub first-done : DoneFrom (settle (readyRows t m false false) (t .count) 0)
+      (record { refusal = firstRefusal (firstOf (readyRows t m false false)) tenant id; value = 0; opened = 0; end = 0 })
   unfolding absentSoFar searchFor lookupReply replyBy
-  first-done = rw first-number (byBool (eqb (firstOf (lookupRows t m id)) 0)
+  first-done = rw first-number (byBool (eqb (firstOf (lookupRows t m tenant id)) 0)
       (λ e.
-      let z = eqb-true (firstOf (lookupRows t m id)) 0 e in
-      rw (e, settle-yes (readyRows t m false) (t .count) 0 (ready-alike z)) (record {
-        tally = tally-start (lookupOpens t m id) (t .count);
+      let z = eqb-true (firstOf (lookupRows t m tenant id)) 0 e in
+      rw (e, settle-yes (readyRows t m false false) (t .count) 0 (ready-alike z)) (record {
+        tally = tally-start (lookupOpens t m tenant id) (t .count);
         status = inl (record { absent = refl; noValue = refl; ready = z; left = left });
       }))
       (λ e.
-      let z = eqb-false (firstOf (lookupRows t m id)) 0 e in
+      let z = eqb-false (firstOf (lookupRows t m tenant id)) 0 e in
       rw e (record {
-        tally = tally-none (lookupOpens t m id) (t .count) _ (opens-none z);
+        tally = tally-none (lookupOpens t m tenant id) (t .count) _ (opens-none z);
         status = inr (record {
           notAbsent = not-absent;
           refusal = sym (ap (λ (x : Reply). x .refusal) (refused-reply z));
@@ -172,8 +169,8 @@ module _ (t : Table) (m : List ℕ) (id : ℕ) where
       left : searchFor t m id .met ≡ searchBelow t m id (t .count) .met
       left = refl
 
-      refused-reply : firstOf (lookupRows t m id) ≢ 0 → lookupReply t m id ≡ refused (firstOf (lookupRows t m id)) 0
-      refused-reply z = settle-no (lookupRows t m id) _ _ z
+      refused-reply : firstOf (lookupRows t m tenant id) ≢ 0 → lookupReply t m tenant id ≡ refused (firstOf (lookupRows t m tenant id)) 0
+      refused-reply z = settle-no (lookupRows t m tenant id) _ _ z
 
   -- server k is next
   module _ (k : ℕ) (l : k < t .count) where
@@ -190,27 +187,27 @@ module _ (t : Table) (m : List ℕ) (id : ℕ) where
     next-other p a = sym (step-settled (readP t k) (t .capacity) (usedOf t k) m id k p a)
 
     -- it is opened exactly where it is read for one that is absent so far
-    opened-here : (o : Option Place) → firstOf (lookupRows t m id) ≡ 0 → searchFor t m id .met ≡ o → leb (lowest o) k ≡ true
-        → (b : Bool) → reads t id k ≡ b → lookupOpens t m id k ≡ b
+    opened-here : (o : Option Place) → firstOf (lookupRows t m tenant id) ≡ 0 → searchFor t m id .met ≡ o → leb (lowest o) k ≡ true
+        → (b : Bool) → reads t id k ≡ b → lookupOpens t m tenant id k ≡ b
     unfolding opens
     opened-here o z e h b r = opens-ready z k ∙ rw (e, h, r)
 
     -- what one more server leaves, and whether it is opened
     pub record Stepped (p : Progress) : Type 0 where
       pub done : DoneFrom k p
-      pub opened : eqb (p .end) (suc k) ≡ lookupOpens t m id k
+      pub opened : eqb (p .end) (suc k) ≡ lookupOpens t m tenant id k
 
-    skipped : (p : Progress) → DoneFrom (suc k) p → lookupOpens t m id k ≡ false → Pending k p ⊎ Ended k p → Stepped p
+    skipped : (p : Progress) → DoneFrom (suc k) p → lookupOpens t m tenant id k ≡ false → Pending k p ⊎ Ended k p → Stepped p
     skipped p d o s = record {
-      done = record { tally = tally-skip (lookupOpens t m id) (t .count) k (p .opened) (p .end) (d .tally) o; status = s };
-      opened = tally-above (lookupOpens t m id) (t .count) k (p .opened) (p .end) (d .tally) ∙ sym o;
+      done = record { tally = tally-skip (lookupOpens t m tenant id) (t .count) k (p .opened) (p .end) (d .tally) o; status = s };
+      opened = tally-above (lookupOpens t m tenant id) (t .count) k (p .opened) (p .end) (d .tally) ∙ sym o;
     }
 
-    visited-is : (p q : Progress) → DoneFrom (suc k) p → lookupOpens t m id k ≡ true → q .opened ≡ suc (p .opened) → q .end ≡ suc k
+    visited-is : (p q : Progress) → DoneFrom (suc k) p → lookupOpens t m tenant id k ≡ true → q .opened ≡ suc (p .opened) → q .end ≡ suc k
         → Pending k q ⊎ Ended k q → Stepped q
     visited-is p q d o a e s = record {
       done = record {
-        tally = rw (a, e) (tally-open (lookupOpens t m id) (t .count) k (p .opened) (p .end) (d .tally) l o);
+        tally = rw (a, e) (tally-open (lookupOpens t m tenant id) (t .count) k (p .opened) (p .end) (d .tally) l o);
         status = s;
       };
       opened = rw e (eq-eqb (suc k) (suc k) refl ∙ sym o);
@@ -256,10 +253,10 @@ module _ (t : Table) (m : List ℕ) (id : ℕ) where
 
   -- all servers are done: the reply is that of a single lookup
   pub all-done : (p : Progress) → DoneFrom 0 p
-      → (p .refusal ≡ lookupReply t m id .refusal) × (p .value ≡ lookupReply t m id .value) × (p .opened ≡ lookupReply t m id .opened)
+      → (p .refusal ≡ lookupReply t m tenant id .refusal) × (p .value ≡ lookupReply t m tenant id .value) × (p .opened ≡ lookupReply t m tenant id .opened)
   unfolding searchBelow metReply
   all-done p d =
-      let o = tally-count (lookupOpens t m id) (t .count) (p .opened) (p .end) (d .tally) ∙ sym reply-opened in
+      let o = tally-count (lookupOpens t m tenant id) (t .count) (p .opened) (p .end) (d .tally) ∙ sym reply-opened in
       ⊎-elim
       (λ (s : Pending 0 p).
       let r = reply-met none (s .ready) (s .left) in

@@ -22,9 +22,9 @@ fn refuse_list<'a>(shape: Shape, columns: Columns<'a>) -> Batch
     batch_answer::refused_batch(1)
 }
 
-// Looks a list of ids up on a table by value.
-pub fn lookup_batch(table: Table, medium: &[u32], ids: &[u32]) -> Batch
-    ensures { λ r. ⌜ r ≡ batchReply table (now (medium .entry)) (now (ids .entry)) ⌝ }
+// Looks a list of ids up for a tenant on a table by value.
+pub fn lookup_batch(table: Table, medium: &[u32], tenant: u32, ids: &[u32]) -> Batch
+    ensures { λ r. ⌜ r ≡ batchReply table (now (medium .entry)) tenant (now (ids .entry)) ⌝ }
 {
     let shape = Shape {
         capacity: table.capacity,
@@ -40,9 +40,9 @@ pub fn lookup_batch(table: Table, medium: &[u32], ids: &[u32]) -> Batch
     if n > MAX_IDS {
         return refuse_list(shape, columns);
     }
-    let number = replies::check_number(checks::ready(shape, columns, medium, false));
+    let number = replies::check_number(checks::ready(shape, columns, medium, false, false));
     let servers = if number == 0 { table.count } else { 0 };
-    let mut parts = batch_steps::begin(ids, number);
+    let mut parts = batch_steps::begin(number, tenant, ids);
     let mut mounts: usize = 0;
     let mut k = servers;
     while 0 < k {

@@ -4,9 +4,10 @@ use mathlib.Core.Bool.{cond, _&&_}
 use mathlib.Core.List.{List}
 use mathlib.Core.Option.{Option, none, some}
 use lib.ListN.{length, replicate}
-use lib.Dec.{leb, eqb}
-use Rattle.limits.specs.Limits.{maxIds, contentRange}
+use lib.Dec.{eqb}
+use Rattle.limits.specs.Limits.{maxIds}
 use Rattle.lists.specs.Below.{nth, highest, setBelow}
+use Rattle.tenants.specs.Tenant.{outOfRange, ofAnother}
 use Rattle.placement.specs.declared.Fraction.{Fraction}
 use Rattle.placement.specs.Draw.{modulus, drawOf}
 use Rattle.placement.specs.Fraction.{exceeds}
@@ -27,10 +28,14 @@ newestBy (some j) = Entry j
 unfoldable pub absentSoFar : ℕ → ℕ
 absentSoFar number = cond (eqb number 0) 8 number
 
--- the refusal of an id before any server is opened. `number` is what the tests say of an id in range; for another id they
--- differ by its range alone, right after the table's soundness
-unfoldable pub firstRefusal : ℕ → ℕ → ℕ
-firstRefusal number id = cond (eqb number 1) 1 (cond (leb contentRange id) 2 (absentSoFar number))
+-- the refusal of an id before any server is opened. `number` is what the tests say of an id in range that is the caller's own; for
+-- another id they differ by its range and its tenant alone, right after the table's soundness
+unfoldable pub firstRefusal : ℕ → ℕ → ℕ → ℕ
+firstRefusal number tenant id =
+    cond (eqb number 1) 1
+    (cond (outOfRange tenant id) 2
+    (cond (ofAnother tenant id) 11
+    (absentSoFar number)))
 
 -- server k is opened for an id, and `opened` is the number of servers opened with it; an entry there ends the search
 unfoldable pub visited : ℕ → List ℕ → ℕ → ℕ → Option ℕ → Progress
@@ -51,9 +56,9 @@ abbrev pub progressAt : Parts → ℕ → Progress
 progressAt parts i = record { refusal = nth (parts .refusals) i; value = nth (parts .values) i; opened = nth (parts .opened) i; end = nth (parts .ends) i }
 
 -- the parts of the first n ids before any server is opened
-unfoldable pub firstParts : ℕ → List ℕ → ℕ → Parts
-firstParts number ids n = record {
-  refusals = filled (λ i. firstRefusal number (nth ids i)) n;
+unfoldable pub firstParts : ℕ → ℕ → List ℕ → ℕ → Parts
+firstParts number tenant ids n = record {
+  refusals = filled (λ i. firstRefusal number tenant (nth ids i)) n;
   values = replicate maxIds 0;
   opened = replicate maxIds 0;
   ends = replicate maxIds 0;

@@ -32,15 +32,18 @@ pub struct Parts {
     pub ends: [u32; MAX_IDS],
 }
 
-// The refusal of an id before any server is opened, by what the tests say of an id in range.
-fn first_refusal(number: u32, id: u32) -> u32
-    ensures { λ r. ⌜ r ≡ firstRefusal number id ⌝ }
+// The refusal of an id before any server is opened, by what the tests say of an id in range that is the caller's own.
+fn first_refusal(number: u32, tenant: u32, id: u32) -> u32
+    ensures { λ r. ⌜ r ≡ firstRefusal number tenant id ⌝ }
 {
     if number == 1 {
         return 1;
     }
-    if limits::CONTENT_RANGE <= id {
+    if tenants::out_of_range(tenant, id) {
         return 2;
+    }
+    if tenants::of_another(tenant, id) {
+        return 11;
     }
     if number == 0 {
         return 8;
@@ -49,9 +52,9 @@ fn first_refusal(number: u32, id: u32) -> u32
 }
 
 // Every id's part before any server is opened.
-pub fn begin(ids: &[u32], number: u32) -> Parts
+pub fn begin(number: u32, tenant: u32, ids: &[u32]) -> Parts
     requires { ⌜ length (now ids) ≤ maxIds ⌝ }
-    ensures { λ r. ⌜ r ≡ firstParts number (now (ids .entry)) (length (now (ids .entry))) ⌝ }
+    ensures { λ r. ⌜ r ≡ firstParts number tenant (now (ids .entry)) (length (now (ids .entry))) ⌝ }
 {
     let mut parts = Parts {
         refusals: [0; MAX_IDS],
@@ -61,7 +64,7 @@ pub fn begin(ids: &[u32], number: u32) -> Parts
     };
     let mut i: usize = 0;
     while i < ids.len() {
-        parts.refusals[i] = first_refusal(number, ids[i]);
+        parts.refusals[i] = first_refusal(number, tenant, ids[i]);
         i += 1;
     }
     parts

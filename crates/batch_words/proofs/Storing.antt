@@ -84,12 +84,12 @@ met-plain capacity m opened (some p) =
     (λ e. rw e (record { server = refl; invalidated = refl }))
     (λ e. rw e (record { server = refl; invalidated = refl }))
 
-lookup-plain : (t : Table) (m : List ℕ) (id : ℕ) → Plain (lookupReply t m id)
+lookup-plain : (t : Table) (m : List ℕ) (tenant id : ℕ) → Plain (lookupReply t m tenant id)
 unfolding lookupReply replyBy
-lookup-plain t m id = settle-either (lookupRows t m id) _ _ Plain (λ _. met-plain (t .capacity) m _ (searchFor t m id .met)) (record { server = refl; invalidated = refl })
+lookup-plain t m tenant id = settle-either (lookupRows t m tenant id) _ _ Plain (λ _. met-plain (t .capacity) m _ (searchFor t m id .met)) (record { server = refl; invalidated = refl })
 
 -- the answer to a list that is not refused
-module _ (t : Table) (m ids : List ℕ) (b : Batch) (is : b ≡ batchReply t m ids) where
+module _ (t : Table) (m : List ℕ) (tenant : ℕ) (ids : List ℕ) (b : Batch) (is : b ≡ batchReply t m tenant ids) where
   -- a refused list's answer has its number
   accepted-rows : b .refusal ≡ 0 → firstOf (batchRows t ids) ≡ 0
   unfolding batchReply settledBatch
@@ -103,32 +103,32 @@ module _ (t : Table) (m ids : List ℕ) (b : Batch) (is : b ≡ batchReply t m i
     few-ids = ltb-false 256 (length ids) (passed 1 (tooLong ids) _ (passed 0 (tooLong ids && not (sound t)) _ (accepted-rows z) .1) .0)
 
     -- its parts
-    whole : b ≡ batchBy (λ i. lookupReply t m (nth ids i) .refusal) (λ i. lookupReply t m (nth ids i) .value) (λ i. lookupReply t m (nth ids i) .opened) (openedAt t m ids) (length ids) (t .count)
+    whole : b ≡ batchBy (λ i. lookupReply t m tenant (nth ids i) .refusal) (λ i. lookupReply t m tenant (nth ids i) .value) (λ i. lookupReply t m tenant (nth ids i) .opened) (openedAt t m tenant ids) (length ids) (t .count)
     unfolding batchReply settledBatch
     whole = is ∙ settle-yes (batchRows t ids) _ _ (accepted-rows z)
 
     -- the part of each id is the reply to a lookup of it alone
-    pub part-is : (i : ℕ) → i < length ids → lookupPart b i ≡ lookupReply t m (nth ids i)
+    pub part-is : (i : ℕ) → i < length ids → lookupPart b i ≡ lookupReply t m tenant (nth ids i)
     unfolding lookupPart batchBy
     part-is i l =
-        let r = lookupReply t m (nth ids i) in
-        let p = lookup-plain t m (nth ids i) in
-        let x = ap (λ (c : Batch). nth (c .refusals) i) whole ∙ filled-at (λ j. lookupReply t m (nth ids j) .refusal) (length ids) few-ids i l in
-        let y = ap (λ (c : Batch). nth (c .values) i) whole ∙ filled-at (λ j. lookupReply t m (nth ids j) .value) (length ids) few-ids i l in
-        let o = ap (λ (c : Batch). nth (c .opened) i) whole ∙ filled-at (λ j. lookupReply t m (nth ids j) .opened) (length ids) few-ids i l in
+        let r = lookupReply t m tenant (nth ids i) in
+        let p = lookup-plain t m tenant (nth ids i) in
+        let x = ap (λ (c : Batch). nth (c .refusals) i) whole ∙ filled-at (λ j. lookupReply t m tenant (nth ids j) .refusal) (length ids) few-ids i l in
+        let y = ap (λ (c : Batch). nth (c .values) i) whole ∙ filled-at (λ j. lookupReply t m tenant (nth ids j) .value) (length ids) few-ids i l in
+        let o = ap (λ (c : Batch). nth (c .opened) i) whole ∙ filled-at (λ j. lookupReply t m tenant (nth ids j) .opened) (length ids) few-ids i l in
         λ k. record { refusal = x k; server = sym (p .server) k; value = y k; opened = o k; invalidated = sym (p .invalidated) k }
 
     pub opened-small : (i : ℕ) → i < length ids → nth (b .opened) i < 4294967296
     unfolding lookupPart
-    opened-small i l = omega (arith, lookup-small t m (nth ids i) .opened, ap (λ (r : Reply). r .opened) (part-is i l))
+    opened-small i l = omega (arith, lookup-small t m tenant (nth ids i) .opened, ap (λ (r : Reply). r .opened) (part-is i l))
 
     pub mounts-small : t .count < 4294967296 → b .mounts < 4294967296
     unfolding batchBy
-    mounts-small l = omega (arith, ap (λ (c : Batch). c .mounts) whole, mounts-few (openedAt t m ids) (length ids) (t .count))
+    mounts-small l = omega (arith, ap (λ (c : Batch). c .mounts) whole, mounts-few (openedAt t m tenant ids) (length ids) (t .count))
 
     pub length-order : length (b .order) ≡ 256
     unfolding batchBy
-    length-order = ap (λ (c : Batch). length (c .order)) whole ∙ length-sets (replicate 256 0) 0 (order (openedAt t m ids) (length ids) (t .count)) ∙ length-replicate {A = ℕ} 256 0
+    length-order = ap (λ (c : Batch). length (c .order)) whole ∙ length-sets (replicate 256 0) 0 (order (openedAt t m tenant ids) (length ids) (t .count)) ∙ length-replicate {A = ℕ} 256 0
 
 -- replies that are the same by position
 replies-same : (f g : ℕ → Reply) (n : ℕ) (words : List ℕ) → ((i : ℕ) → i < n → f i ≡ g i) → withReplies f n words ≡ withReplies g n words
@@ -137,31 +137,31 @@ replies-same f g zero words h = refl
 replies-same f g (suc n) words h = ap₂ (λ (w : List ℕ) (r : Reply). withReply w n r) (replies-same f g n words (λ i l. h i (omega arith))) (h n (omega arith))
 
 -- what `lookup_batch` ensures where it answers a number
-abbrev pub Done : List ℕ → List ℕ → List ℕ → List ℕ → List ℕ → List ℕ → ℕ → List ℕ → List ℕ → List ℕ → Type 0
-Done table m ids replies order mounts number replies′ order′ mounts′ =
-    (number ≡ afterBatch table m ids replies order mounts .number)
-    × ((replies′ ≡ afterBatch table m ids replies order mounts .replies)
-    × ((order′ ≡ afterBatch table m ids replies order mounts .order)
-    × (mounts′ ≡ afterBatch table m ids replies order mounts .mounts)))
+abbrev pub Done : List ℕ → List ℕ → ℕ → List ℕ → List ℕ → List ℕ → List ℕ → ℕ → List ℕ → List ℕ → List ℕ → Type 0
+Done table m tenant ids replies order mounts number replies′ order′ mounts′ =
+    (number ≡ afterBatch table m tenant ids replies order mounts .number)
+    × ((replies′ ≡ afterBatch table m tenant ids replies order mounts .replies)
+    × ((order′ ≡ afterBatch table m tenant ids replies order mounts .order)
+    × (mounts′ ≡ afterBatch table m tenant ids replies order mounts .mounts)))
 
-module _ (table m ids replies order mounts : List ℕ) (long : Bool) (told : long ≡ fitsBatch (length ids) table replies order mounts) where
-  pub batch-short : long ≡ false → Done table m ids replies order mounts tooShort replies order mounts
+module _ (table m : List ℕ) (tenant : ℕ) (ids replies order mounts : List ℕ) (long : Bool) (told : long ≡ fitsBatch (length ids) table replies order mounts) where
+  pub batch-short : long ≡ false → Done table m tenant ids replies order mounts tooShort replies order mounts
   unfolding afterBatch
   batch-short e = let f : fitsBatch (length ids) table replies order mounts ≡ false = sym told ∙ e in rw f (refl, (refl, (refl, refl)))
 
-  module _ (yes : long ≡ true) (b : Batch) (is : b ≡ batchReply (tableFrom table) m ids) where
-    stored : afterBatch table m ids replies order mounts ≡ batchStored table m ids replies order mounts b
+  module _ (yes : long ≡ true) (b : Batch) (is : b ≡ batchReply (tableFrom table) m tenant ids) where
+    stored : afterBatch table m tenant ids replies order mounts ≡ batchStored table m tenant ids replies order mounts b
     unfolding afterBatch
     stored = let f : fitsBatch (length ids) table replies order mounts ≡ true = sym told ∙ yes in rw (f, is)
 
-    pub batch-refused : b .refusal ≢ 0 → Done table m ids replies order mounts (b .refusal) replies order mounts
+    pub batch-refused : b .refusal ≢ 0 → Done table m tenant ids replies order mounts (b .refusal) replies order mounts
     unfolding batchStored
     batch-refused f = rw (stored, ne-eqb (b .refusal) 0 f) (refl, (refl, (refl, refl)))
 
     pub batch-done : b .refusal ≡ 0 → (replies′ order′ mounts′ : List ℕ)
         → replies′ ≡ withReplies (lookupPart b) (length ids) replies → order′ ≡ setBelow (nth (b .order)) (length ids) order → mounts′ ≡ set mounts 0 (b .mounts)
-        → Done table m ids replies order mounts 0 replies′ order′ mounts′
+        → Done table m tenant ids replies order mounts 0 replies′ order′ mounts′
     unfolding batchStored
     batch-done z replies′ order′ mounts′ x y w =
         rw (stored, eq-eqb (b .refusal) 0 z)
-        (refl, (x ∙ replies-same (lookupPart b) _ (length ids) replies (part-is (tableFrom table) m ids b is z), (y, w)))
+        (refl, (x ∙ replies-same (lookupPart b) _ (length ids) replies (part-is (tableFrom table) m tenant ids b is z), (y, w)))

@@ -27,21 +27,21 @@ fitsBatch n table replies order mounts =
     leb tableLength (length table) && (leb (replyLength * n) (length replies) && (leb n (length order) && leb 1 (length mounts)))
 
 -- what is stored of the answer b to the whole list; a refused list leaves the words as lent
-unfoldable pub batchStored : List ℕ → List ℕ → List ℕ → List ℕ → List ℕ → List ℕ → Batch → AfterBatch
-batchStored table m ids replies order mounts b =
+unfoldable pub batchStored : List ℕ → List ℕ → ℕ → List ℕ → List ℕ → List ℕ → List ℕ → Batch → AfterBatch
+batchStored table m tenant ids replies order mounts b =
     cond (eqb (b .refusal) 0)
     (record {
       number = 0;
-      replies = withReplies (λ i. lookupReply (tableFrom table) m (nth ids i)) (length ids) replies;
+      replies = withReplies (λ i. lookupReply (tableFrom table) m tenant (nth ids i)) (length ids) replies;
       order = setBelow (nth (b .order)) (length ids) order;
       mounts = set mounts 0 (b .mounts);
     })
     (record { number = b .refusal; replies = replies; order = order; mounts = mounts })
 
-unfoldable pub afterBatch : List ℕ → List ℕ → List ℕ → List ℕ → List ℕ → List ℕ → AfterBatch
-afterBatch table m ids replies order mounts =
+unfoldable pub afterBatch : List ℕ → List ℕ → ℕ → List ℕ → List ℕ → List ℕ → List ℕ → AfterBatch
+afterBatch table m tenant ids replies order mounts =
     cond (fitsBatch (length ids) table replies order mounts)
-    (batchStored table m ids replies order mounts (batchReply (tableFrom table) m ids))
+    (batchStored table m tenant ids replies order mounts (batchReply (tableFrom table) m tenant ids))
     (record { number = tooShort; replies = replies; order = order; mounts = mounts })
 
 -- the reply to the id at position i, by the parts of the answer

@@ -63,25 +63,26 @@ fn store_front(array: &[u32; MAX_IDS], n: usize, words: &mut [u32])
     }
 }
 
-// Looks many ids up together, and stores each id's reply, the order of finding and the number of servers opened.
+// Looks many ids up together for a tenant, and stores each id's reply, the order of finding and the number of servers opened.
 pub fn lookup_batch(
     table: &[u32],
     medium: &[u32],
+    tenant: u32,
     ids: &[u32],
     replies: &mut [u32],
     order: &mut [u32],
     mounts: &mut [u32],
 ) -> u32
-    ensures number { λ r. ⌜ r ≡ afterBatch (now (table .entry)) (now (medium .entry)) (now (ids .entry)) (now (replies .entry)) (now (order .entry)) (now (mounts .entry)) .number ⌝ }
-    ensures replies { λ _. ⌜ now (replies .exit) ≡ afterBatch (now (table .entry)) (now (medium .entry)) (now (ids .entry)) (now (replies .entry)) (now (order .entry)) (now (mounts .entry)) .replies ⌝ }
-    ensures order { λ _. ⌜ now (order .exit) ≡ afterBatch (now (table .entry)) (now (medium .entry)) (now (ids .entry)) (now (replies .entry)) (now (order .entry)) (now (mounts .entry)) .order ⌝ }
-    ensures mounts { λ _. ⌜ now (mounts .exit) ≡ afterBatch (now (table .entry)) (now (medium .entry)) (now (ids .entry)) (now (replies .entry)) (now (order .entry)) (now (mounts .entry)) .mounts ⌝ }
+    ensures number { λ r. ⌜ r ≡ afterBatch (now (table .entry)) (now (medium .entry)) tenant (now (ids .entry)) (now (replies .entry)) (now (order .entry)) (now (mounts .entry)) .number ⌝ }
+    ensures replies { λ _. ⌜ now (replies .exit) ≡ afterBatch (now (table .entry)) (now (medium .entry)) tenant (now (ids .entry)) (now (replies .entry)) (now (order .entry)) (now (mounts .entry)) .replies ⌝ }
+    ensures order { λ _. ⌜ now (order .exit) ≡ afterBatch (now (table .entry)) (now (medium .entry)) tenant (now (ids .entry)) (now (replies .entry)) (now (order .entry)) (now (mounts .entry)) .order ⌝ }
+    ensures mounts { λ _. ⌜ now (mounts .exit) ≡ afterBatch (now (table .entry)) (now (medium .entry)) tenant (now (ids .entry)) (now (replies .entry)) (now (order .entry)) (now (mounts .entry)) .mounts ⌝ }
 {
     let n = ids.len();
     if !fits(table, n, replies, order, mounts) {
         return encoding::TOO_SHORT;
     }
-    let batch = batch::lookup_batch(table_words::table_from(table), medium, ids);
+    let batch = batch::lookup_batch(table_words::table_from(table), medium, tenant, ids);
     if batch.refusal != 0 {
         return batch.refusal;
     }

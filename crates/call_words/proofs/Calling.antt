@@ -37,21 +37,21 @@ pub count-fits : (S : State) (o : Option Call) (t : Table) → t ≡ nextBy S o 
 count-fits S o t e l = omega (arith, call-count S o l, ap (λ (u : Table). u .count) e)
 
 -- a call but add_server and reweight, whose reply is r: where its entry is counted, and the words after it
-module _ (words m : List ℕ) (number subject amount : ℕ) (l : tableLength ≤ length words) (r : Reply) (e : r ≡ replyTo (lent words m) (callOf number subject amount)) where
+module _ (words m : List ℕ) (number tenant subject amount : ℕ) (l : tableLength ≤ length words) (r : Reply) (e : r ≡ replyTo (lent words m) (callOf number tenant subject amount)) where
   pub counts-there : number ≡ writeNumber → r .refusal ≡ 0 → (r .server < 256) × (nth (columnFrom words usedOffset) (r .server) < 65536)
   unfolding tableFrom
   counts-there d z =
       let long = length-column words usedOffset (omega arith) in
-      let c = counts (lent words m) number subject amount r e long d z in
+      let c = counts (lent words m) number tenant subject amount r e long d z in
       (omega (arith, c .0, long), c .1)
 
   pub counted-words : number ≢ addServerNumber → number ≢ reweightNumber
-      → withColumn words usedOffset (usedAfter (columnFrom words usedOffset) number r) ≡ withTable words (nextBy (lent words m) (callOf number subject amount) .table)
+      → withColumn words usedOffset (usedAfter (columnFrom words usedOffset) number r) ≡ withTable words (nextBy (lent words m) (callOf number tenant subject amount) .table)
   unfolding tableFrom
   counted-words a b =
       let used = usedAfter (columnFrom words usedOffset) number r in
       used-stored words used l
-      ∙ ap (withTable words) (called-in (lent words m) number subject amount r e used _ a b refl refl .1 .0)
+      ∙ ap (withTable words) (called-in (lent words m) number tenant subject amount r e used _ a b refl refl .1 .0)
 
 -- what `call` ensures where it answers n
 abbrev pub Done : List ℕ → List ℕ → List ℕ → List ℕ → ℕ → List ℕ → List ℕ → List ℕ → Type 0

@@ -40,10 +40,10 @@ next-arrays : (S : State) (c : Call) → Arrays (S .table) → Arrays (next S c 
 unfolding next addServerTable reweightTable writeTable
 next-arrays S (addServer weight) a = settle-either (addServerRows (S .table) (S .medium) weight) _ _ Arrays (λ _. withServer-arrays (S .table) weight a) a
 next-arrays S (reweight server weight) a = settle-either (reweightRows (S .table) server weight) _ _ Arrays (λ _. withWeight-arrays (S .table) server weight a) a
-next-arrays S (write id value) a = settle-either (writeRows (S .table) (S .medium) id value) _ _ Arrays (λ _. withEntry-arrays (S .table) (target (S .table) id) a) a
-next-arrays S (delete id) a = a
-next-arrays S (lookup id) a = a
-next-arrays S (batch ids) a = a
+next-arrays S (write tenant id value) a = settle-either (writeRows (S .table) (S .medium) tenant id value) _ _ Arrays (λ _. withEntry-arrays (S .table) (target (S .table) id) a) a
+next-arrays S (delete tenant id) a = a
+next-arrays S (lookup tenant id) a = a
+next-arrays S (batch tenant ids) a = a
 
 pub call-arrays : (S : State) (o : Option Call) → Arrays (S .table) → Arrays (nextBy S o .table)
 unfolding nextBy
@@ -91,10 +91,10 @@ unfolding next addServerTable reweightTable writeTable withServer withWeight wit
 next-count S (addServer weight) l =
     settle-either (addServerRows (S .table) (S .medium) weight) _ _ Fits (λ z. omega (arith, addServer-accepted (S .table) (S .medium) weight z .few)) l
 next-count S (reweight server weight) l = settle-either (reweightRows (S .table) server weight) _ _ Fits (λ z. l) l
-next-count S (write id value) l = settle-either (writeRows (S .table) (S .medium) id value) _ _ Fits (λ z. l) l
-next-count S (delete id) l = l
-next-count S (lookup id) l = l
-next-count S (batch ids) l = l
+next-count S (write tenant id value) l = settle-either (writeRows (S .table) (S .medium) tenant id value) _ _ Fits (λ z. l) l
+next-count S (delete tenant id) l = l
+next-count S (lookup tenant id) l = l
+next-count S (batch tenant ids) l = l
 
 pub call-count : (S : State) (o : Option Call) → Fits (S .table) → Fits (nextBy S o .table)
 unfolding nextBy

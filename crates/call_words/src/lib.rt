@@ -14,6 +14,7 @@ use encoding::CALL_LENGTH;
 use encoding::NUMBER_OFFSET;
 use encoding::REPLY_LENGTH;
 use encoding::SUBJECT_OFFSET;
+use encoding::TENANT_OFFSET;
 use replies::Reply;
 use replies::WRITE;
 use table::Columns;
@@ -27,11 +28,18 @@ use table_words::USED_OFFSET;
 use table_words::WEIGHTS_OFFSET;
 
 // Runs a call but add_server and reweight. `count` then makes the table after it.
-fn run_on(words: &[u32], medium: &mut [u32], number: u32, subject: u32, amount: u32) -> Reply
+fn run_on(
+    words: &[u32],
+    medium: &mut [u32],
+    number: u32,
+    tenant: u32,
+    subject: u32,
+    amount: u32,
+) -> Reply
     requires { ⌜ tableLength ≤ length (now words) ⌝ }
     requires { ⌜ (number ≢ addServerNumber) × (number ≢ reweightNumber) ⌝ }
-    ensures reply { λ r. ⌜ r ≡ replyTo (lent (now (words .entry)) (now (medium .entry))) (callOf number subject amount) ⌝ }
-    ensures medium { λ _. ⌜ now (medium .exit) ≡ nextBy (lent (now (words .entry)) (now (medium .entry))) (callOf number subject amount) .medium ⌝ }
+    ensures reply { λ r. ⌜ r ≡ replyTo (lent (now (words .entry)) (now (medium .entry))) (callOf number tenant subject amount) ⌝ }
+    ensures medium { λ _. ⌜ now (medium .exit) ≡ nextBy (lent (now (words .entry)) (now (medium .entry))) (callOf number tenant subject amount) .medium ⌝ }
 {
     let shape = Shape {
         capacity: words[CAPACITY_OFFSET],
@@ -43,7 +51,7 @@ fn run_on(words: &[u32], medium: &mut [u32], number: u32, subject: u32, amount: 
         &words[NUMERATORS_OFFSET..DENOMINATORS_OFFSET],
         &words[DENOMINATORS_OFFSET..TABLE_LENGTH],
     ];
-    dispatch::run_in(shape, columns, medium, number, subject, amount)
+    dispatch::run_in(shape, columns, medium, number, tenant, subject, amount)
 }
 
 // Counts the entry of an accepted write as used on its server.
@@ -56,11 +64,18 @@ fn count(words: &mut [u32], number: u32, reply: Reply)
 }
 
 // Runs a call by its number on a table lent as words.
-pub fn run(table: &mut [u32], medium: &mut [u32], number: u32, subject: u32, amount: u32) -> Reply
+pub fn run(
+    table: &mut [u32],
+    medium: &mut [u32],
+    number: u32,
+    tenant: u32,
+    subject: u32,
+    amount: u32,
+) -> Reply
     requires { ⌜ tableLength ≤ length (now table) ⌝ }
-    ensures reply { λ r. ⌜ r ≡ replyTo (lent (now (table .entry)) (now (medium .entry))) (callOf number subject amount) ⌝ }
-    ensures table { λ _. ⌜ now (table .exit) ≡ withTable (now (table .entry)) (nextBy (lent (now (table .entry)) (now (medium .entry))) (callOf number subject amount) .table) ⌝ }
-    ensures medium { λ _. ⌜ now (medium .exit) ≡ nextBy (lent (now (table .entry)) (now (medium .entry))) (callOf number subject amount) .medium ⌝ }
+    ensures reply { λ r. ⌜ r ≡ replyTo (lent (now (table .entry)) (now (medium .entry))) (callOf number tenant subject amount) ⌝ }
+    ensures table { λ _. ⌜ now (table .exit) ≡ withTable (now (table .entry)) (nextBy (lent (now (table .entry)) (now (medium .entry))) (callOf number tenant subject amount) .table) ⌝ }
+    ensures medium { λ _. ⌜ now (medium .exit) ≡ nextBy (lent (now (table .entry)) (now (medium .entry))) (callOf number tenant subject amount) .medium ⌝ }
 {
     if number < WRITE {
         let ran = dispatch::run_change(
@@ -73,7 +88,7 @@ pub fn run(table: &mut [u32], medium: &mut [u32], number: u32, subject: u32, amo
         table_words::store_table(table, ran.table);
         return ran.reply;
     }
-    let reply = run_on(table, medium, number, subject, amount);
+    let reply = run_on(table, medium, number, tenant, subject, amount);
     count(table, number, reply);
     reply
 }
@@ -98,6 +113,7 @@ pub fn call(table: &mut [u32], medium: &mut [u32], call: &[u32], reply: &mut [u3
         table,
         medium,
         call[NUMBER_OFFSET],
+        call[TENANT_OFFSET],
         call[SUBJECT_OFFSET],
         call[AMOUNT_OFFSET],
     );

@@ -1,19 +1,17 @@
--- Delete (document 01, "The calls" and its table of refusals): its rows of refusals in the order of the tests, its reply, and
+-- Delete (document 01, "The calls" and its table of refusals; document 02, item 2): its rows of refusals in the order of the tests, its reply, and
 -- the medium that it leaves. t is the table and m the medium as lent.
 use Prim.Native.Nat.{ℕ}
 use mathlib.Core.Bool.{Bool, true, false, not}
 use mathlib.Core.List.{List, [], _∷_, _++_}
 use mathlib.Core.Option.{Option, none, some}
 use lib.ListN.{length}
-use lib.Dec.{leb}
-use Rattle.limits.specs.Limits.{contentRange}
 use Rattle.medium.specs.Word.{deleted}
 use Rattle.medium.specs.Burn.{burnAll, invalidations}
 use Rattle.table.specs.declared.Table.{Table}
 use Rattle.replies.specs.Refusal.{Row, _when_, settle}
 use Rattle.replies.specs.declared.Reply.{Reply}
 use Rattle.replies.specs.Reply.{onServer, replyBy}
-use Rattle.checks.specs.Ready.{readyRows}
+use Rattle.checks.specs.Ready.{askedRows}
 use Rattle.search.specs.Search.{Place, searchFor}
 use Rattle.invalidation.specs.Marks.{marksFrom}
 
@@ -22,17 +20,18 @@ unfoldable pub isMet : Option Place → Bool
 isMet none = false
 isMet (some p) = true
 
-unfoldable pub deleteRows : Table → List ℕ → ℕ → List Row
-deleteRows t m id =
-    readyRows t m (leb contentRange id)
+-- the caller's tenant, then the id
+unfoldable pub deleteRows : Table → List ℕ → ℕ → ℕ → List Row
+deleteRows t m tenant id =
+    askedRows t m tenant id false
     ++ (8 when not (isMet (searchFor t m id .met)) ∷ [])
 
 -- the marks of every live entry on every readable server, from server 0 up
 unfoldable pub deleteMarks : Table → List ℕ → ℕ → List ℕ
 deleteMarks t m id = marksFrom t m id 0
 
-unfoldable pub deleteReply : Table → List ℕ → ℕ → Reply
-deleteReply t m id = replyBy (deleteRows t m id) (onServer 0 (length (deleteMarks t m id)))
+unfoldable pub deleteReply : Table → List ℕ → ℕ → ℕ → Reply
+deleteReply t m tenant id = replyBy (deleteRows t m tenant id) (onServer 0 (length (deleteMarks t m id)))
 
-unfoldable pub deleteMedium : Table → List ℕ → ℕ → List ℕ
-deleteMedium t m id = settle (deleteRows t m id) (burnAll m (invalidations deleted (deleteMarks t m id))) m
+unfoldable pub deleteMedium : Table → List ℕ → ℕ → ℕ → List ℕ
+deleteMedium t m tenant id = settle (deleteRows t m tenant id) (burnAll m (invalidations deleted (deleteMarks t m id))) m

@@ -3,7 +3,6 @@ ghost use mathlib.Core.Path.{_≡_};
 ghost use Rattle.table.specs.Parts.{tableOf, Whole};
 ghost use Rattle.replies.specs.Reply.{replyOfDelete};
 ghost use Rattle.deletion.specs.Deletion.{deleteReply, deleteMedium};
-use limits::CONTENT_RANGE;
 use replies::Check;
 use replies::DeleteAnswer;
 use replies::Refusal;
@@ -11,18 +10,19 @@ use table::Columns;
 use table::Shape;
 use table::Table;
 
-// Deletes an id on a table whose columns are borrowed.
+// Deletes an id for a tenant on a table whose columns are borrowed.
 pub fn delete_in<'a>(
     shape: Shape,
     columns: Columns<'a>,
     medium: &mut [u32],
+    tenant: u32,
     id: u32,
 ) -> DeleteAnswer
     requires { ⌜ Whole columns ⌝ }
-    ensures reply { λ r. ⌜ replyOfDelete r ≡ deleteReply (tableOf shape (columns .entry)) (now (medium .entry)) id ⌝ }
-    ensures medium { λ _. ⌜ now (medium .exit) ≡ deleteMedium (tableOf shape (columns .entry)) (now (medium .entry)) id ⌝ }
+    ensures reply { λ r. ⌜ replyOfDelete r ≡ deleteReply (tableOf shape (columns .entry)) (now (medium .entry)) tenant id ⌝ }
+    ensures medium { λ _. ⌜ now (medium .exit) ≡ deleteMedium (tableOf shape (columns .entry)) (now (medium .entry)) tenant id ⌝ }
 {
-    let check = checks::ready(shape, columns, medium, CONTENT_RANGE <= id);
+    let check = checks::asked(shape, columns, medium, tenant, id, false);
     if let Check::Refused(refusal) = check {
         return DeleteAnswer::Refused(refusal);
     }
@@ -33,10 +33,10 @@ pub fn delete_in<'a>(
     DeleteAnswer::Deleted(n)
 }
 
-// Deletes an id on a table by value.
-pub fn delete(table: Table, medium: &mut [u32], id: u32) -> DeleteAnswer
-    ensures reply { λ r. ⌜ replyOfDelete r ≡ deleteReply table (now (medium .entry)) id ⌝ }
-    ensures medium { λ _. ⌜ now (medium .exit) ≡ deleteMedium table (now (medium .entry)) id ⌝ }
+// Deletes an id for a tenant on a table by value.
+pub fn delete(table: Table, medium: &mut [u32], tenant: u32, id: u32) -> DeleteAnswer
+    ensures reply { λ r. ⌜ replyOfDelete r ≡ deleteReply table (now (medium .entry)) tenant id ⌝ }
+    ensures medium { λ _. ⌜ now (medium .exit) ≡ deleteMedium table (now (medium .entry)) tenant id ⌝ }
 {
     let shape = Shape {
         capacity: table.capacity,
@@ -48,5 +48,5 @@ pub fn delete(table: Table, medium: &mut [u32], id: u32) -> DeleteAnswer
         &table.numerators,
         &table.denominators,
     ];
-    delete_in(shape, columns, medium, id)
+    delete_in(shape, columns, medium, tenant, id)
 }

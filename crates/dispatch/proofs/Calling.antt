@@ -28,33 +28,33 @@ abbrev pub Called : State → Option Call → Reply → Table → List ℕ → T
 Called S o r table medium = (r ≡ replyTo S o) × ((table ≡ nextBy S o .table) × (medium ≡ nextBy S o .medium))
 
 -- a number that is no call
-pub no-call : (number subject amount : ℕ) → number ≢ addServerNumber → number ≢ reweightNumber → number ≢ writeNumber → number ≢ deleteNumber → number ≢ lookupNumber → callOf number subject amount ≡ none
+pub no-call : (number tenant subject amount : ℕ) → number ≢ addServerNumber → number ≢ reweightNumber → number ≢ writeNumber → number ≢ deleteNumber → number ≢ lookupNumber → callOf number tenant subject amount ≡ none
 unfolding callOf
-no-call number subject amount a b c d e = rw (ne-eqb number addServerNumber a, ne-eqb number reweightNumber b, ne-eqb number writeNumber c, ne-eqb number deleteNumber d, ne-eqb number lookupNumber e)
+no-call number tenant subject amount a b c d e = rw (ne-eqb number addServerNumber a, ne-eqb number reweightNumber b, ne-eqb number writeNumber c, ne-eqb number deleteNumber d, ne-eqb number lookupNumber e)
 
 -- a table with other used entries
 abbrev pub withUsed : Table → List ℕ → Table
 withUsed t used = tableBy (shapeOf t) (t .weights) used (t .numerators) (t .denominators)
 
-module _ (S : State) (number subject amount : ℕ) where
+module _ (S : State) (number tenant subject amount : ℕ) where
   -- the table after a write, and after delete, lookup or no call
-  written-table : number ≡ writeNumber → writeTable (S .table) (S .medium) subject amount ≡ nextBy S (callOf number subject amount) .table
+  written-table : number ≡ writeNumber → writeTable (S .table) (S .medium) tenant subject amount ≡ nextBy S (callOf number tenant subject amount) .table
   unfolding callOf nextBy next
   written-table d = rw d
 
-  same-table : number ≢ addServerNumber → number ≢ reweightNumber → number ≢ writeNumber → nextBy S (callOf number subject amount) .table ≡ S .table
+  same-table : number ≢ addServerNumber → number ≢ reweightNumber → number ≢ writeNumber → nextBy S (callOf number tenant subject amount) .table ≡ S .table
   unfolding callOf nextBy next
   same-table a b c = rw (ne-eqb number addServerNumber a, ne-eqb number reweightNumber b, ne-eqb number writeNumber c)
       (byBool (eqb number deleteNumber) (λ d. rw d) (λ d. rw d (byBool (eqb number lookupNumber) (λ d. rw d) (λ d. rw d))))
 
   -- by its reply: whether and where an entry is counted, and the table with it
-  module _ (r : Reply) (e : r ≡ replyTo S (callOf number subject amount)) where
-    written-here : number ≡ writeNumber → r ≡ writeReply (S .table) (S .medium) subject amount
+  module _ (r : Reply) (e : r ≡ replyTo S (callOf number tenant subject amount)) where
+    written-here : number ≡ writeNumber → r ≡ writeReply (S .table) (S .medium) tenant subject amount
     unfolding callOf replyTo reply
     written-here d = e ∙ rw d
 
-    written-to-here : number ≡ writeNumber → r .refusal ≡ 0 → WrittenTo (S .table) (S .medium) subject amount (r .server)
-    written-to-here d z = written-to (S .table) (S .medium) subject amount r (written-here d) z
+    written-to-here : number ≡ writeNumber → r .refusal ≡ 0 → WrittenTo (S .table) (S .medium) tenant subject amount (r .server)
+    written-to-here d z = written-to (S .table) (S .medium) tenant subject amount r (written-here d) z
 
     -- what `count_write` asks of a whole column
     pub counts : length (S .table .used) ≡ 256 → number ≡ writeNumber → r .refusal ≡ 0
@@ -65,18 +65,18 @@ module _ (S : State) (number subject amount : ℕ) where
         (omega arith, omega arith)
 
     counted : (used : List ℕ) → number ≢ addServerNumber → number ≢ reweightNumber → used ≡ usedAfter (S .table .used) number r
-        → withUsed (S .table) used ≡ nextBy S (callOf number subject amount) .table
+        → withUsed (S .table) used ≡ nextBy S (callOf number tenant subject amount) .table
     unfolding usedAfter withEntry
     counted used a b u = ap (withUsed (S .table)) u ∙ byBool (eqb number writeNumber)
         (λ d.
         let is = eqb-true number writeNumber d in
         rw d (byBool (eqb (r .refusal) 0)
         (λ z. rw z (written-to-here is (eqb-true (r .refusal) 0 z) .table ∙ written-table is))
-        (λ z. rw z (table-kept (S .table) (S .medium) subject amount r (written-here is) (eqb-false (r .refusal) 0 z) ∙ written-table is))))
+        (λ z. rw z (table-kept (S .table) (S .medium) tenant subject amount r (written-here is) (eqb-false (r .refusal) 0 z) ∙ written-table is))))
         (λ d. rw d (sym (same-table a b (eqb-false number writeNumber d))))
 
     pub called-in : (used medium : List ℕ) → number ≢ addServerNumber → number ≢ reweightNumber → used ≡ usedAfter (S .table .used) number r
-        → medium ≡ nextBy S (callOf number subject amount) .medium → Called S (callOf number subject amount) r (withUsed (S .table) used) medium
+        → medium ≡ nextBy S (callOf number tenant subject amount) .medium → Called S (callOf number tenant subject amount) r (withUsed (S .table) used) medium
     called-in used medium a b u d = (e, (counted used a b u, d))
 
 -- what the code stores of its reply as a cast fits a word
@@ -85,10 +85,10 @@ unfolding replyTo reply
 replyTo-small S none = record { server = omega arith; opened = omega arith; invalidated = omega arith }
 replyTo-small S (some (addServer weight)) = addServer-small (S .table) (S .medium) weight
 replyTo-small S (some (reweight server weight)) = reweight-small (S .table) server weight
-replyTo-small S (some (write id value)) = write-small (S .table) (S .medium) id value
-replyTo-small S (some (delete id)) = delete-small (S .table) (S .medium) id
-replyTo-small S (some (lookup id)) = lookup-small (S .table) (S .medium) id
-replyTo-small S (some (batch ids)) = record { server = omega arith; opened = omega arith; invalidated = omega arith }
+replyTo-small S (some (write tenant id value)) = write-small (S .table) (S .medium) tenant id value
+replyTo-small S (some (delete tenant id)) = delete-small (S .table) (S .medium) tenant id
+replyTo-small S (some (lookup tenant id)) = lookup-small (S .table) (S .medium) tenant id
+replyTo-small S (some (batch tenant ids)) = record { server = omega arith; opened = omega arith; invalidated = omega arith }
 
 pub called-small : (S : State) (o : Option Call) (r : Reply) → r ≡ replyTo S o → (r .server < 4294967296) × (r .opened < 4294967296) × (r .invalidated < 4294967296)
 called-small S o r e = let s : Small r = rw e (replyTo-small S o) in (s .server, s .opened, s .invalidated)

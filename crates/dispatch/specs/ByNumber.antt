@@ -10,21 +10,22 @@ use Rattle.replies.specs.declared.Reply.{Reply}
 use Rattle.replies.specs.Reply.{refused}
 use Rattle.history.specs.Call.{Call, addServer, reweight, write, delete, lookup}
 use Rattle.history.specs.Machine.{State, reply, next}
-use Rattle.encoding.specs.Encoding.{callWord, numberOffset, subjectOffset, amountOffset}
+use Rattle.encoding.specs.Encoding.{callWord, numberOffset, tenantOffset, subjectOffset, amountOffset}
 
--- the call of a number, a subject (an id or a server) and an amount (a value or a weight); another number is no call
-unfoldable pub callOf : ℕ → ℕ → ℕ → Option Call
-callOf number subject amount =
+-- the call of a number, the caller's tenant, a subject (an id or a server) and an amount (a value or a weight); another number is
+-- no call
+unfoldable pub callOf : ℕ → ℕ → ℕ → ℕ → Option Call
+callOf number tenant subject amount =
     cond (eqb number addServerNumber) (some (addServer amount))
     (cond (eqb number reweightNumber) (some (reweight subject amount))
-    (cond (eqb number writeNumber) (some (write subject amount))
-    (cond (eqb number deleteNumber) (some (delete subject))
-    (cond (eqb number lookupNumber) (some (lookup subject))
+    (cond (eqb number writeNumber) (some (write tenant subject amount))
+    (cond (eqb number deleteNumber) (some (delete tenant subject))
+    (cond (eqb number lookupNumber) (some (lookup tenant subject))
     none))))
 
 -- call i of encoded calls
 unfoldable pub callAt : List ℕ → ℕ → Option Call
-callAt words i = callOf (callWord words i numberOffset) (callWord words i subjectOffset) (callWord words i amountOffset)
+callAt words i = callOf (callWord words i numberOffset) (callWord words i tenantOffset) (callWord words i subjectOffset) (callWord words i amountOffset)
 
 -- what is no call gets a number that no call gives, and changes nothing
 abbrev pub noCall : ℕ

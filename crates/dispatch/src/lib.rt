@@ -1,7 +1,7 @@
 // One call, run by its number: add_server and reweight on a table by value, every other call on borrowed columns.
 ghost use mathlib.Core.Path.{_≡_};
 ghost use mathlib.Core.Logic.{_≢_};
-ghost use Prim.Native.Nat.{_<_};
+ghost use Prim.Native.Nat.{ℕ, _<_};
 ghost use lib.ListN.{length};
 ghost use Rattle.limits.specs.Limits.{maxCapacity};
 ghost use Rattle.lists.specs.Below.{nth};
@@ -57,18 +57,32 @@ pub fn run_in<'a>(
     columns: Columns<'a>,
     medium: &mut [u32],
     number: u32,
+    tenant: u32,
     subject: u32,
     amount: u32,
 ) -> Reply
     requires { ⌜ Whole columns ⌝ }
     requires { ⌜ (number ≢ addServerNumber) × (number ≢ reweightNumber) ⌝ }
-    ensures reply { λ r. ⌜ r ≡ replyTo (record { table = tableOf shape (columns .entry); medium = now (medium .entry) }) (callOf number subject amount) ⌝ }
-    ensures medium { λ _. ⌜ now (medium .exit) ≡ nextBy (record { table = tableOf shape (columns .entry); medium = now (medium .entry) }) (callOf number subject amount) .medium ⌝ }
+    ensures reply { λ r. ⌜ r ≡ replyTo (record { table = tableOf shape (columns .entry); medium = now (medium .entry) }) (callOf number tenant subject amount) ⌝ }
+    ensures medium { λ _. ⌜ now (medium .exit) ≡ nextBy (record { table = tableOf shape (columns .entry); medium = now (medium .entry) }) (callOf number tenant subject amount) .medium ⌝ }
 {
     match number {
-        WRITE => replies::write_reply(writing::write_in(shape, columns, medium, subject, amount)),
-        DELETE => replies::delete_reply(deletion::delete_in(shape, columns, medium, subject)),
-        LOOKUP => replies::lookup_reply(lookup::lookup_in(shape, columns, medium, subject)),
+        WRITE => replies::write_reply(writing::write_in(
+            shape,
+            columns,
+            medium,
+            tenant,
+            subject,
+            amount,
+        )),
+        DELETE => replies::delete_reply(deletion::delete_in(
+            shape,
+            columns,
+            medium,
+            tenant,
+            subject,
+        )),
+        LOOKUP => replies::lookup_reply(lookup::lookup_in(shape, columns, medium, tenant, subject)),
         _ => no_call(),
     }
 }
@@ -86,12 +100,12 @@ pub fn count_write(used: &mut [u32], number: u32, reply: Reply)
     }
 }
 
-// Runs add_server or reweight, which take the table by value; 0 is no call.
+// Runs add_server or reweight, which take the table by value and have no tenant; 0 is no call.
 pub fn run_change(table: Table, medium: &mut [u32], number: u32, subject: u32, amount: u32) -> Ran
     requires { ⌜ number < writeNumber ⌝ }
-    ensures reply { λ r. ⌜ r .reply ≡ replyTo (record { table = table; medium = now (medium .entry) }) (callOf number subject amount) ⌝ }
-    ensures table { λ r. ⌜ r .table ≡ nextBy (record { table = table; medium = now (medium .entry) }) (callOf number subject amount) .table ⌝ }
-    ensures medium { λ _. ⌜ now (medium .exit) ≡ nextBy (record { table = table; medium = now (medium .entry) }) (callOf number subject amount) .medium ⌝ }
+    ensures reply { λ r. ⌜ ((tenant : ℕ) → r .reply ≡ replyTo (record { table = table; medium = now (medium .entry) }) (callOf number tenant subject amount)) ⌝ }
+    ensures table { λ r. ⌜ ((tenant : ℕ) → r .table ≡ nextBy (record { table = table; medium = now (medium .entry) }) (callOf number tenant subject amount) .table) ⌝ }
+    ensures medium { λ _. ⌜ ((tenant : ℕ) → now (medium .exit) ≡ nextBy (record { table = table; medium = now (medium .entry) }) (callOf number tenant subject amount) .medium) ⌝ }
 {
     match number {
         ADD_SERVER => from_changed(servers::add_server(table, medium, amount)),

@@ -15,7 +15,7 @@ ghost use Rattle.batch_words.specs.BatchWords.{afterBatch};
 ghost use Rattle.embed.specs.Embed.{version, startNumber};
 
 // The version of the interface: it grows when a signature or an encoding changes.
-const VERSION: u32 = 1;
+const VERSION: u32 = 2;
 
 #[no_mangle]
 pub extern "C" fn archive_abi() -> u32
@@ -104,20 +104,21 @@ pub extern "C" fn archive_picks(weights: &[u32], ids: &[u32], servers: &mut [u32
     picks::picks(weights, ids, servers)
 }
 
-// Looks many ids up together, and stores each id's reply, the order of finding and the number of servers opened.
+// Looks many ids up together for a tenant, and stores each id's reply, the order of finding and the number of servers opened.
 #[no_mangle]
 pub extern "C" fn archive_lookup_batch(
     table: &[u32],
     medium: &[u32],
+    tenant: u32,
     ids: &[u32],
     replies: &mut [u32],
     order: &mut [u32],
     mounts: &mut [u32],
 ) -> u32
-    ensures number { λ r. ⌜ r ≡ afterBatch (now (table .entry)) (now (medium .entry)) (now (ids .entry)) (now (replies .entry)) (now (order .entry)) (now (mounts .entry)) .number ⌝ }
-    ensures replies { λ _. ⌜ now (replies .exit) ≡ afterBatch (now (table .entry)) (now (medium .entry)) (now (ids .entry)) (now (replies .entry)) (now (order .entry)) (now (mounts .entry)) .replies ⌝ }
-    ensures order { λ _. ⌜ now (order .exit) ≡ afterBatch (now (table .entry)) (now (medium .entry)) (now (ids .entry)) (now (replies .entry)) (now (order .entry)) (now (mounts .entry)) .order ⌝ }
-    ensures mounts { λ _. ⌜ now (mounts .exit) ≡ afterBatch (now (table .entry)) (now (medium .entry)) (now (ids .entry)) (now (replies .entry)) (now (order .entry)) (now (mounts .entry)) .mounts ⌝ }
+    ensures number { λ r. ⌜ r ≡ afterBatch (now (table .entry)) (now (medium .entry)) tenant (now (ids .entry)) (now (replies .entry)) (now (order .entry)) (now (mounts .entry)) .number ⌝ }
+    ensures replies { λ _. ⌜ now (replies .exit) ≡ afterBatch (now (table .entry)) (now (medium .entry)) tenant (now (ids .entry)) (now (replies .entry)) (now (order .entry)) (now (mounts .entry)) .replies ⌝ }
+    ensures order { λ _. ⌜ now (order .exit) ≡ afterBatch (now (table .entry)) (now (medium .entry)) tenant (now (ids .entry)) (now (replies .entry)) (now (order .entry)) (now (mounts .entry)) .order ⌝ }
+    ensures mounts { λ _. ⌜ now (mounts .exit) ≡ afterBatch (now (table .entry)) (now (medium .entry)) tenant (now (ids .entry)) (now (replies .entry)) (now (order .entry)) (now (mounts .entry)) .mounts ⌝ }
 {
-    batch_words::lookup_batch(table, medium, ids, replies, order, mounts)
+    batch_words::lookup_batch(table, medium, tenant, ids, replies, order, mounts)
 }

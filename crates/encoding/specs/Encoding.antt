@@ -2,7 +2,7 @@
 --
 --   word   of a call                        of a reply
 --   0      number                           refusal
---   1      tenant                           server
+--   1      tenant of the caller             server
 --   2      subject: id or server            value, its low 32 bits
 --   3      amount: value or weight          value, its high bits
 --   4      amount, its high bits            opened
@@ -10,8 +10,8 @@
 --   6      burns                            0
 --   7      0                                0
 --
--- A call's number says which of its words count, and no other is read. No call reads its words 1 and 4 to 7 yet, and word 3
--- of every reply is 0. All eight words of a reply are written, a 0 where it carries nothing.
+-- A call's number says which of its words count, and no other is read. No call reads its words 4 to 7 yet, and word 3 of
+-- every reply is 0. All eight words of a reply are written, a 0 where it carries nothing.
 use Prim.Native.Nat.{ℕ, _+_, _*_, _/_, min}
 use mathlib.Core.List.{List}
 use lib.ListN.{set}
@@ -24,6 +24,9 @@ callLength = 8
 
 abbrev pub numberOffset : ℕ
 numberOffset = 0
+
+abbrev pub tenantOffset : ℕ
+tenantOffset = 1
 
 abbrev pub subjectOffset : ℕ
 subjectOffset = 2

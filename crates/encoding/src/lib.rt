@@ -10,6 +10,8 @@ pub const CALL_LENGTH: usize = 8;
 
 pub const NUMBER_OFFSET: usize = 0;
 
+pub const TENANT_OFFSET: usize = 1;
+
 pub const SUBJECT_OFFSET: usize = 2;
 
 pub const AMOUNT_OFFSET: usize = 3;

@@ -31,7 +31,7 @@ use Rattle.replies.proofs.Refusals.{passed, settle-yes, settle-no}
 use Rattle.server_rows.specs.ServerRows.{addServerRows}
 use Rattle.servers.specs.Servers.{addServerReply, addServerTable}
 use Rattle.history.specs.Call.{addServer, compared}
-use Rattle.history.specs.Ledger.{Event, Ledger, told, usedBy, put, addServerRowsL, withServerL, enter}
+use Rattle.history.specs.Ledger.{Event, Ledger, told, usedBy, put, addServerRowsL, withServerL, rowsOf, doneOf, enter}
 use Rattle.history.proofs.Tops.{top-wider}
 use Rattle.history.proofs.Events.{placeOf}
 use Rattle.history.proofs.Holds.{Holds}
@@ -129,7 +129,7 @@ module _ {t : Table} {m : List ℕ} {L : Ledger} (A : Agree t m L) (weight : ℕ
     }
 
   pub add-server-step : Step (addServerReply t m weight) (addServerTable t m weight) m (enter L (addServer weight))
-  unfolding addServerReply addServerTable enter addServerRows compared
+  unfolding addServerReply addServerTable enter rowsOf doneOf addServerRows compared
   add-server-step = settled L (addServerRows t m weight) (addServerRowsL L weight) same-rows _ _ (addServerTable t m weight) m
       (λ z.
       let a = passed 0 _ _ z in

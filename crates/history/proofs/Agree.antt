@@ -28,12 +28,12 @@ use Rattle.replies.specs.Refusal.{Row, firstOf}
 use Rattle.replies.specs.declared.Reply.{Reply}
 use Rattle.replies.specs.Reply.{refused, replyBy}
 use Rattle.replies.proofs.Refusals.{settle-yes, settle-no, numbered}
-use Rattle.checks.specs.Ready.{short, readyRows}
+use Rattle.checks.specs.Ready.{short, readyRows, askedRows}
 use Rattle.search.specs.Search.{Place, searchFor}
 use Rattle.search.proofs.Searches.{met-some, met-none}
 use Rattle.planning.specs.WriteRows.{target}
 use Rattle.history.specs.Call.{compared}
-use Rattle.history.specs.Ledger.{Ledger, Entered, enterBy, put, usedBy, shortL, readyRowsL, targetL}
+use Rattle.history.specs.Ledger.{Ledger, Entered, enterBy, put, usedBy, shortL, askedRowsL, targetL}
 use Rattle.history.proofs.Tops.{TopAt, top-same}
 use Rattle.history.proofs.Events.{placeOf}
 use Rattle.history.proofs.Entering.{entered}
@@ -84,9 +84,9 @@ settled L rows rowsL same done doneL t m accepts refuses = entered (Step (replyB
     let f : (firstOf rows ≡ 0 → ⊥) = λ z. n (sym same ∙ z) in
     rw (settle-no rows done (refused (firstOf rows) 0) f) (record { alike = rw same; agrees = refuses f }))
 
-pub ledger-numbered : (L : Ledger) (outside : Bool) → numbered (readyRowsL L outside) ≡ true
-unfolding readyRowsL numbered
-ledger-numbered L outside = refl
+pub ledger-numbered : (L : Ledger) (tenant id : ℕ) (outside : Bool) → numbered (askedRowsL L tenant id outside) ≡ true
+unfolding askedRowsL numbered
+ledger-numbered L tenant id outside = refl
 
 module _ {t : Table} {m : List ℕ} {L : Ledger} (A : Agree t m L) where
   -- the same tests
@@ -98,9 +98,9 @@ module _ {t : Table} {m : List ℕ} {L : Ledger} (A : Agree t m L) where
   unfolding short shortL
   same-short = ap₂ ltb (A .words) (same-address (t .count) (L .servers) (A .count))
 
-  pub same-ready : (outside : Bool) → firstOf (readyRows t m outside) ≡ firstOf (readyRowsL L outside)
-  unfolding firstOf readyRows readyRowsL
-  same-ready outside = rw (A .isSound, ap (λ (c : ℕ). eqb c 0) (A .count), same-short)
+  pub same-asked : (tenant id : ℕ) (outside : Bool) → firstOf (askedRows t m tenant id outside) ≡ firstOf (askedRowsL L tenant id outside)
+  unfolding firstOf askedRows readyRows askedRowsL
+  same-asked tenant id outside = rw (A .isSound, ap (λ (c : ℕ). eqb c 0) (A .count), same-short)
 
   pub same-target : (id : ℕ) → target t id ≡ targetL L id
   unfolding target targetL writeServer

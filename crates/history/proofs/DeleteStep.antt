@@ -1,11 +1,10 @@
 -- A delete on both sides.
 -- Assumes nothing.
 use Prim.Native.Nat.{ℕ, _<_}
-use mathlib.Core.Bool.{not}
+use mathlib.Core.Bool.{false, not}
 use mathlib.Core.Path.{_≡_, refl, ap, _∙_}
 use mathlib.Core.List.{List}
 use mathlib.Core.Option.{Option, none, some}
-use lib.Dec.{leb}
 use Rattle.limits.specs.Limits.{contentRange}
 use Rattle.placement.specs.Rule.{readable}
 use Rattle.medium.specs.Word.{deleted}
@@ -16,16 +15,14 @@ use Rattle.table.specs.Parts.{reads}
 use Rattle.replies.specs.Refusal.{firstOf}
 use Rattle.replies.proofs.Refusals.{settle-yes, settle-no, first-same, more-same}
 use Rattle.search.specs.Search.{searchFor}
-use Rattle.checks.proofs.Passed.{ready-numbered}
-use Rattle.lookup.specs.Lookup.{lookupRows}
-use Rattle.lookup.proofs.Passed.{in-range}
+use Rattle.checks.proofs.Passed.{asked-numbered, asked-accepted}
 use Rattle.deletion.proofs.Done.{delete-all, delete-ready}
 use Rattle.deletion.specs.Deletion.{isMet, deleteRows, deleteMarks, deleteReply, deleteMedium}
 use Rattle.history.specs.Call.{delete, compared}
-use Rattle.history.specs.Ledger.{removed, Ledger, Version, usedBy, lastWriteOf, isWritten, withEvent, deleteRowsL, enter}
+use Rattle.history.specs.Ledger.{removed, Ledger, Version, usedBy, lastWriteOf, isWritten, withEvent, deleteRowsL, rowsOf, doneOf, enter}
 use Rattle.history.proofs.Events.{placeOf, came-placed, none-placed}
 use Rattle.history.proofs.DeletedMedium.{afterDelete, delete-holds}
-use Rattle.history.proofs.Agree.{Agree, Step, settled, same-ready, ledger-numbered, same-reads, same-marks, same-met}
+use Rattle.history.proofs.Agree.{Agree, Step, settled, same-asked, ledger-numbered, same-reads, same-marks, same-met}
 
 module _ {t : Table} {m : List ℕ} {L : Ledger} (A : Agree t m L) (id : ℕ) where
   same-isMet : id < contentRange → isMet (searchFor t m id .met) ≡ isWritten (lastWriteOf (L .events) id)
@@ -36,14 +33,13 @@ module _ {t : Table} {m : List ℕ} {L : Ledger} (A : Agree t m L) (id : ℕ) wh
       go none e = rw (none-placed (L .events) id e)
       go (some x) e = rw (came-placed (L .events) id x e)
 
-  pub same-rows : firstOf (deleteRows t m id) ≡ firstOf (deleteRowsL L id)
-  unfolding deleteRows deleteRowsL lookupRows
-  same-rows = more-same _ _ _ _ (ready-numbered t m _) (ledger-numbered L _) (same-ready A (leb contentRange id)) (λ z.
-      first-same 8 _ _ _ _ (ap not (same-isMet (in-range t m id z))) (λ _. refl))
+  pub same-rows : (tenant : ℕ) → firstOf (deleteRows t m tenant id) ≡ firstOf (deleteRowsL L tenant id)
+  unfolding deleteRows deleteRowsL
+  same-rows tenant = more-same _ _ _ _ (asked-numbered t m tenant id _) (ledger-numbered L tenant id _) (same-asked A tenant id false) (λ z.
+      first-same 8 _ _ _ _ (ap not (same-isMet (asked-accepted t m tenant id false z .small))) (λ _. refl))
 
-  pub accepted-id : firstOf (deleteRows t m id) ≡ 0 → id < contentRange
-  unfolding lookupRows
-  accepted-id z = in-range t m id (delete-ready t m id z)
+  pub accepted-id : (tenant : ℕ) → firstOf (deleteRows t m tenant id) ≡ 0 → id < contentRange
+  accepted-id tenant z = asked-accepted t m tenant id false (delete-ready t m tenant id z) .small
 
   -- the medium that an accepted delete leaves
   pub delete-medium : burnAll m (invalidations deleted (deleteMarks t m id)) ≡ afterDelete (t .capacity) (t .count) (L .greatest) (L .events) m id
@@ -63,9 +59,9 @@ module _ {t : Table} {m : List ℕ} {L : Ledger} (A : Agree t m L) (id : ℕ) wh
     holds = rw delete-medium (delete-holds (A .holds) id n);
   }
 
-  pub delete-step : Step (deleteReply t m id) t (deleteMedium t m id) (enter L (delete id))
-  unfolding deleteReply deleteMedium enter compared
-  delete-step = settled L (deleteRows t m id) (deleteRowsL L id) same-rows _ _ t (deleteMedium t m id)
-      (λ z. rw (settle-yes (deleteRows t m id) (burnAll m (invalidations deleted (deleteMarks t m id))) m z)
-      (record { alike = refl; agrees = agrees (accepted-id z) }))
-      (λ f. rw (settle-no (deleteRows t m id) (burnAll m (invalidations deleted (deleteMarks t m id))) m f) A)
+  pub delete-step : (tenant : ℕ) → Step (deleteReply t m tenant id) t (deleteMedium t m tenant id) (enter L (delete tenant id))
+  unfolding deleteReply deleteMedium enter rowsOf doneOf compared
+  delete-step tenant = settled L (deleteRows t m tenant id) (deleteRowsL L tenant id) (same-rows tenant) _ _ t (deleteMedium t m tenant id)
+      (λ z. rw (settle-yes (deleteRows t m tenant id) (burnAll m (invalidations deleted (deleteMarks t m id))) m z)
+      (record { alike = refl; agrees = agrees (accepted-id tenant z) }))
+      (λ f. rw (settle-no (deleteRows t m tenant id) (burnAll m (invalidations deleted (deleteMarks t m id))) m f) A)

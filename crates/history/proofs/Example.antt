@@ -3,7 +3,7 @@
 -- Assumes nothing.
 use Prim.Native.Nat.{ℕ, suc, _+_, _-_, _≤_}
 use mathlib.Core.Path.{_≡_, refl, sym, ap, ap₂, _∙_}
-use mathlib.Core.Bool.{Bool, true, false, _&&_, _||_}
+use mathlib.Core.Bool.{Bool, true, false, _&&_}
 use mathlib.Core.List.{List, [], _∷_, _++_, map}
 use native.Mathlib.Omega.{arith}
 use lib.ListN.{length, length-set, length-append, set, replicate, replicate-append-replicate}
@@ -13,6 +13,7 @@ use borrow.Author.Tests.{ltb-true, ltb-false, le-ltb}
 use Rattle.limits.specs.Limits.{contentRange}
 use Rattle.lists.specs.Below.{nth, allBelow, highest, orZero, upward, countBelow, total, setBelow}
 use Rattle.lists.proofs.Tests.{and-l, and-r}
+use Rattle.tenants.specs.Tenant.{tenantOf, outOfRange, ofAnother}
 use Rattle.placement.specs.Draw.{stepOf, nonzero, seedOf, xorLeft, xorRight, roundOf, drawOf}
 use Rattle.placement.specs.Fraction.{exceeds, atLeast, raise}
 use Rattle.placement.specs.Rule.{shareOf, writeP, takes, pick, writeServer, readable}
@@ -27,7 +28,7 @@ use Rattle.replies.specs.Reply.{refused, found, replyBy}
 use Rattle.replies.specs.declared.Reply.{Reply}
 use Rattle.replies.proofs.Refusals.{settle-both}
 use Rattle.search.specs.Search.{lastLive, opening, searchBelow, searchFor}
-use Rattle.checks.specs.Ready.{short, readyRows}
+use Rattle.checks.specs.Ready.{short, readyRows, askedRows}
 use Rattle.lookup.specs.Lookup.{lookupRows, metReply, lookupReply}
 use Rattle.deletion.specs.Deletion.{isMet, deleteRows, deleteMarks, deleteReply, deleteMedium}
 use Rattle.planning.specs.WriteRows.{target, entryRows, writeRows}
@@ -87,9 +88,9 @@ module _ (rest : List ℕ) where
   long-enough : (m : List ℕ) (n : ℕ) → ltb (length m) n ≡ false → ltb (length (m ++ rest)) n ≡ ltb (length m) n
   long-enough m n e = le-ltb (length (m ++ rest)) n (omega (arith, length-append m rest, ltb-false (length m) n e)) ∙ sym e
 
-  ready : (t : Table) (m : List ℕ) (outside : Bool) → short t m ≡ false → readyRows t (m ++ rest) outside ≡ readyRows t m outside
-  unfolding readyRows short
-  ready t m outside e = rw (long-enough m (serverAt (t .capacity) (t .count)) e)
+  asked : (t : Table) (m : List ℕ) (tenant id : ℕ) (outside : Bool) → short t m ≡ false → askedRows t (m ++ rest) tenant id outside ≡ askedRows t m tenant id outside
+  unfolding askedRows readyRows short
+  asked t m tenant id outside e = rw (long-enough m (serverAt (t .capacity) (t .count)) e)
 
   -- burns inside the medium
   burn-before : (m : List ℕ) (burns : List Burn) → below (length m) burns ≡ true → burnAll (m ++ rest) burns ≡ burnAll m burns ++ rest
@@ -115,24 +116,24 @@ module _ (rest : List ℕ) where
     unfolding reply next
     re-weight server weight = one-call refl refl
 
-    write-one : (id value : ℕ) (marks : List ℕ) → short t m ≡ false → Enters t id marks m → Enters t id marks (m ++ rest) → below (length m) (writeBurns t m id value) ≡ true
-        → next (state t m) (write id value) ≡ state u w → Alike u w cs → Alike t m (write id value ∷ cs)
+    write-one : (tenant id value : ℕ) (marks : List ℕ) → short t m ≡ false → Enters t id marks m → Enters t id marks (m ++ rest) → below (length m) (writeBurns t m id value) ≡ true
+        → next (state t m) (write tenant id value) ≡ state u w → Alike u w cs → Alike t m (write tenant id value ∷ cs)
     unfolding reply next writeReply writeTable writeMedium writeRows writeBurns
-    write-one id value marks e a b i =
-        let r = ready t m (leb contentRange id || leb contentRange value) e in
+    write-one tenant id value marks e a b i =
+        let r = asked t m tenant id (leb contentRange value) e in
         one-call (rw (r, a .0, a .1, b .0, b .1)) (ap₂ state (rw (r, a .0, b .0)) (rw (r, a .0, a .1, b .0, b .1) (burned _ m _ (rw (a .1) at i))))
 
-    delete-one : (id : ℕ) (marks : List ℕ) → short t m ≡ false → Deletes t id marks m → Deletes t id marks (m ++ rest) → below (length m) (invalidations deleted marks) ≡ true
-        → next (state t m) (delete id) ≡ state u w → Alike u w cs → Alike t m (delete id ∷ cs)
+    delete-one : (tenant id : ℕ) (marks : List ℕ) → short t m ≡ false → Deletes t id marks m → Deletes t id marks (m ++ rest) → below (length m) (invalidations deleted marks) ≡ true
+        → next (state t m) (delete tenant id) ≡ state u w → Alike u w cs → Alike t m (delete tenant id ∷ cs)
     unfolding reply next deleteReply deleteMedium deleteRows
-    delete-one id marks e a b i =
-        let r = ready t m (leb contentRange id) e in
+    delete-one tenant id marks e a b i =
+        let r = asked t m tenant id false e in
         one-call (rw (r, a .0, a .1, b .0, b .1)) (ap (state t) (rw (r, a .0, a .1, b .0, b .1) (burned _ m _ i)))
 
-  look-up : (t : Table) (m : List ℕ) {cs : List Call} (id : ℕ) (x : Reply) → short t m ≡ false → Looks t id x m → Looks t id x (m ++ rest)
-      → Alike t m cs → Alike t m (lookup id ∷ cs)
+  look-up : (t : Table) (m : List ℕ) {cs : List Call} (tenant id : ℕ) (x : Reply) → short t m ≡ false → Looks t id x m → Looks t id x (m ++ rest)
+      → Alike t m cs → Alike t m (lookup tenant id ∷ cs)
   unfolding reply next lookupReply lookupRows
-  look-up t m id x e a b = one-call (rw (ready t m (leb contentRange id) e, a, b)) refl refl
+  look-up t m tenant id x e a b = one-call (rw (asked t m tenant id false e, a, b)) refl refl
 
 -- the tables and the media of the example over 36 words, each by the number of calls before it
 abbrev T0 : Table
@@ -176,7 +177,7 @@ record Over36 : Type 0 where
   longer : (rest : List ℕ) → Alike rest T0 M0 calls
 
 over-36 : Over36
-unfolding calls expected below allBelow highest orZero upward countBelow total setBelow stepOf nonzero seedOf xorLeft xorRight roundOf drawOf exceeds atLeast raise shareOf writeP takes pick writeServer readable serverAt entryAt bearsAt live blankRun burnAll marksOn marksOver invalidations readSound serverSound sound withServer withWeight oneMore withEntry firstOf settle replyBy lastLive opening searchBelow searchFor startRows startTable addServerRows addServerReply addServerTable reweightRows reweightReply reweightTable short readyRows target entryRows writeRows writeMarks writeBurns writeReply writeTable writeMedium isMet deleteRows deleteMarks deleteReply deleteMedium lookupRows metReply lookupReply reply next after replies begin
+unfolding calls expected below allBelow highest orZero upward countBelow total setBelow stepOf nonzero seedOf xorLeft xorRight roundOf drawOf exceeds atLeast raise shareOf writeP takes pick writeServer readable serverAt entryAt bearsAt live blankRun burnAll marksOn marksOver invalidations readSound serverSound sound withServer withWeight oneMore withEntry firstOf settle replyBy lastLive opening searchBelow searchFor startRows startTable addServerRows addServerReply addServerTable reweightRows reweightReply reweightTable short readyRows askedRows tenantOf outOfRange ofAnother target entryRows writeRows writeMarks writeBurns writeReply writeTable writeMedium isMet deleteRows deleteMarks deleteReply deleteMedium lookupRows metReply lookupReply reply next after replies begin
 over-36 = record {
   accepted = refl;
   said = refl;
@@ -185,13 +186,13 @@ over-36 = record {
       add-server rest T0 M0 T1 M0 1 refl refl refl refl
       (add-server rest T1 M0 T2 M0 0 refl refl refl refl
       (add-server rest T2 M0 T3 M0 2 refl refl refl refl
-      (write-one rest T3 M0 T4 M4 626627286 500 [] refl (refl, refl) (refl, refl) refl refl
-      (look-up rest T4 M4 626627286 (found 500 1) refl refl refl
+      (write-one rest T3 M0 T4 M4 4 626627286 500 [] refl (refl, refl) (refl, refl) refl refl
+      (look-up rest T4 M4 4 626627286 (found 500 1) refl refl refl
       (re-weight rest T4 M4 T6 M4 0 2 refl
-      (write-one rest T6 M4 T7 M7 626627286 740 (26 ∷ []) refl (refl, refl) (refl, refl) refl refl
-      (look-up rest T7 M7 626627286 (found 740 2) refl refl refl
-      (delete-one rest T7 M7 T7 M9 626627286 (2 ∷ []) refl (refl, refl) (refl, refl) refl refl
-      (look-up rest T7 M9 626627286 (refused 8 2) refl refl refl
+      (write-one rest T6 M4 T7 M7 4 626627286 740 (26 ∷ []) refl (refl, refl) (refl, refl) refl refl
+      (look-up rest T7 M7 4 626627286 (found 740 2) refl refl refl
+      (delete-one rest T7 M7 T7 M9 4 626627286 (2 ∷ []) refl (refl, refl) (refl, refl) refl refl
+      (look-up rest T7 M9 4 626627286 (refused 8 2) refl refl refl
       (no-calls rest))))))))));
 }
 

@@ -1,17 +1,17 @@
 mod Tops
-mod Events
-mod Entering
-mod Holds
+pub mod Events
+pub mod Entering
+pub mod Holds
 mod MarkedMedium
 mod DeletedMedium
 mod WrittenMedium
-mod Agree
+pub mod Agree
 mod LookupStep
 mod ReweightStep
 mod AddServerStep
 mod DeleteStep
 mod WriteStep
-mod Batches
+pub mod Batches
 pub mod Run
 mod Never
 mod Counting

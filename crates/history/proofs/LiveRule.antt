@@ -23,7 +23,7 @@ use Rattle.writing.specs.Writing.{writeBurns, writeMedium}
 use Rattle.server_rows.specs.ServerRows.{startRows}
 use Rattle.history.specs.Call.{Call, addServer, reweight, write, delete, lookup, batch}
 use Rattle.history.specs.Machine.{State, next, after, begin}
-use Rattle.history.specs.Ledger.{Event, wrote, removed, Ledger, Entered, enterBy, freshLedger, usedBy, addServerRowsL, withServerL, reweightRowsL, withWeightL, withEvent, writeRowsL, deleteRowsL, lookupRowsL, enter, ledgerAfter}
+use Rattle.history.specs.Ledger.{Event, wrote, removed, Ledger, Entered, enterBy, freshLedger, usedBy, addServerRowsL, withServerL, reweightRowsL, withWeightL, withEvent, writeRowsL, deleteRowsL, lookupRowsL, batchRowsL, rowsOf, doneOf, enter, ledgerAfter}
 use Rattle.history.specs.Demand3.{stateThen, ledgerThen}
 use Rattle.history.specs.LiveRule.{staysLive, LiveRule}
 use Rattle.history.proofs.Events.{EachWrite, each-none, each-wrote, each-removed, used-write}
@@ -37,7 +37,7 @@ use Rattle.history.proofs.DeleteStep.{same-rows as same-delete, accepte
 use Rattle.history.proofs.Run.{Agrees, begin-agrees, step, run}
 
 -- each write's entry bears its id exactly when the later events leave it so
-abbrev Ruled : ℕ → List Event → List ℕ → Type 0
+abbrev pub Ruled : ℕ → List Event → List ℕ → Type 0
 Ruled capacity events m = EachWrite events (λ newer older id value server. bears capacity m id server (usedBy older server) ≡ staysLive id server newer)
 
 -- one event more
@@ -63,7 +63,7 @@ module _ {capacity count : ℕ} {greatest : ℕ → Fraction} {events : List Eve
       ∙ rw (R newer older a v k e) (and-comm (staysLive a k newer) (not (eqb id a))))
 
 -- the same of a ledger
-abbrev Rules : Ledger → List ℕ → Type 0
+abbrev pub Rules : Ledger → List ℕ → Type 0
 Rules L m = Ruled (L .capacity) (L .events) m
 
 -- a call that may burn, and one that leaves the events and the medium
@@ -79,41 +79,41 @@ module _ (L : Ledger) (m : List ℕ) (R : Rules L m) where
   same-rules rows done Q = entered (λ e. Rules (e .ledger) m) L rows done (λ z. Q) (λ f. R)
 
 module _ {t : Table} {m : List ℕ} {L : Ledger} (A : Agree t m L) (R : Rules L m) where
-  table-ruled : Ruled (t .capacity) (L .events) m
+  pub table-ruled : Ruled (t .capacity) (L .events) m
   table-ruled = subst (λ (c : ℕ). Ruled c (L .events) m) (sym (A .capacity)) R
 
-  write-rules : (id value : ℕ) → Rules (enter L (write id value) .ledger) (writeMedium t m id value)
-  unfolding enter withEvent writeMedium
-  write-rules id value = settled-rules L m R (writeRows t m id value) (writeRowsL L id value) (same-write A id value) _ (burnAll m (writeBurns t m id value))
+  write-rules : (tenant id value : ℕ) → Rules (enter L (write tenant id value) .ledger) (writeMedium t m tenant id value)
+  unfolding enter rowsOf doneOf withEvent writeMedium
+  write-rules tenant id value = settled-rules L m R (writeRows t m tenant id value) (writeRowsL L tenant id value) (same-write A tenant id value) _ (burnAll m (writeBurns t m id value))
       (λ z.
-      let W = accepted A id value z in
+      let W = accepted A tenant id value z in
       let server = target t id in
-      rw (write-medium A id value (W .there), ← (same-target A id))
+      rw (write-medium A tenant id value (W .there), ← (same-target A id))
       (subst (λ (c : ℕ). Ruled c (wrote id value server ∷ L .events) (afterWrite (t .capacity) (t .count) (L .greatest) (L .events) m id value server)) (A .capacity)
       (write-ruled (A .holds) table-ruled W)))
 
-  delete-rules : (id : ℕ) → Rules (enter L (delete id) .ledger) (deleteMedium t m id)
-  unfolding enter withEvent deleteMedium
-  delete-rules id = settled-rules L m R (deleteRows t m id) (deleteRowsL L id) (same-delete A id) _ (burnAll m (invalidations deleted (deleteMarks t m id)))
+  delete-rules : (tenant id : ℕ) → Rules (enter L (delete tenant id) .ledger) (deleteMedium t m tenant id)
+  unfolding enter rowsOf doneOf withEvent deleteMedium
+  delete-rules tenant id = settled-rules L m R (deleteRows t m tenant id) (deleteRowsL L tenant id) (same-delete A id tenant) _ (burnAll m (invalidations deleted (deleteMarks t m id)))
       (λ z. rw (delete-medium A id)
       (subst (λ (c : ℕ). Ruled c (removed id ∷ L .events) (afterDelete (t .capacity) (t .count) (L .greatest) (L .events) m id)) (A .capacity)
-      (delete-ruled (A .holds) table-ruled id (accepted-id A id z))))
+      (delete-ruled (A .holds) table-ruled id (accepted-id A id tenant z))))
 
-next-rules : (S : State) (L : Ledger) → Agrees S L → Rules L (S .medium) → (c : Call) → Rules (enter L c .ledger) (next S c .medium)
-unfolding enter next withServerL withWeightL
+pub next-rules : (S : State) (L : Ledger) → Agrees S L → Rules L (S .medium) → (c : Call) → Rules (enter L c .ledger) (next S c .medium)
+unfolding enter rowsOf doneOf next withServerL withWeightL
 next-rules S L A R (addServer weight) = same-rules L (S .medium) R (addServerRowsL L weight) _ R
 next-rules S L A R (reweight server weight) = same-rules L (S .medium) R (reweightRowsL L server weight) _ R
-next-rules S L A R (write id value) = write-rules A R id value
-next-rules S L A R (delete id) = delete-rules A R id
-next-rules S L A R (lookup id) = same-rules L (S .medium) R (lookupRowsL L id) _ R
-next-rules S L A R (batch ids) = R
+next-rules S L A R (write tenant id value) = write-rules A R tenant id value
+next-rules S L A R (delete tenant id) = delete-rules A R tenant id
+next-rules S L A R (lookup tenant id) = same-rules L (S .medium) R (lookupRowsL L tenant id) _ R
+next-rules S L A R (batch tenant ids) = same-rules L (S .medium) R (batchRowsL ids) _ R
 
 run-rules : (calls : List Call) (S : State) (L : Ledger) → Agrees S L → Rules L (S .medium) → Rules (ledgerAfter L calls) (after S calls .medium)
 unfolding after ledgerAfter
 run-rules [] S L A R = R
 run-rules (c ∷ calls) S L A R = run-rules calls (next S c) (enter L c .ledger) (step S L A c .agrees) (next-rules S L A R c)
 
-begin-rules : (capacity n : ℕ) → Rules (freshLedger capacity n) (begin capacity n .medium)
+pub begin-rules : (capacity n : ℕ) → Rules (freshLedger capacity n) (begin capacity n .medium)
 unfolding freshLedger
 begin-rules capacity n = each-none _
 

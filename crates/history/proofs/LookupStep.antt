@@ -2,40 +2,42 @@
 -- Assumes nothing.
 use Prim.Native.Nat.{ℕ, _<_}
 use mathlib.Core.Path.{_≡_, refl, ap, ap₂, _∙_}
-use mathlib.Core.Bool.{Bool, _&&_}
+use mathlib.Core.Bool.{Bool, false, _&&_}
 use mathlib.Core.List.{List}
 use mathlib.Core.Option.{Option, none, some}
 use native.Mathlib.Omega.{arith}
 use lib.ListN.{length}
 use lib.Dec.{leb}
-use borrow.Author.Tests.{lt-leb, le-ltb, ne-eqb}
+use borrow.Author.Tests.{le-ltb, ne-eqb}
 use Rattle.limits.specs.Limits.{contentRange}
 use Rattle.lists.specs.Below.{countBelow}
 use Rattle.lists.proofs.Below.{countBelow-cong}
 use Rattle.placement.specs.Rule.{readable}
+use Rattle.tenants.specs.Tenant.{tenantOf}
+use Rattle.tenants.proofs.Tenants.{own-id, own-in-range}
 use Rattle.medium.specs.Word.{tagOf, contentOf, valueWord}
 use Rattle.medium.specs.Entry.{serverAt}
 use Rattle.table.specs.declared.Table.{Table}
 use Rattle.table.specs.Parts.{reads}
-use Rattle.replies.specs.Refusal.{firstOf}
+use Rattle.replies.specs.Refusal.{Row, firstOf}
 use Rattle.replies.specs.Reply.{refused, replyBy}
 use Rattle.replies.proofs.Refusals.{settle-yes}
 use Rattle.search.specs.Search.{Place, searchFor}
-use Rattle.checks.specs.Ready.{short, readyRows}
+use Rattle.checks.specs.Ready.{short, readyRows, askedRows}
 use Rattle.lookup.specs.Lookup.{lookupRows, metReply, lookupReply}
 use Rattle.search.specs.Opened.{lowest, opens}
 use Rattle.search.proofs.Searches.{opened-are}
-use Rattle.lookup.proofs.Passed.{in-range}
+use Rattle.lookup.proofs.Passed.{lookup-asked}
 use Rattle.history.specs.Call.{lookup, compared}
-use Rattle.history.specs.Ledger.{Ledger, Version, usedBy, lastWriteOf, lookupRowsL, openedFrom, lastWriteReply, enter}
+use Rattle.history.specs.Ledger.{Ledger, Version, usedBy, lastWriteOf, lookupRowsL, openedFrom, lastWriteReply, rowsOf, doneOf, enter}
 use Rattle.history.proofs.Events.{placeOf, last-came, came-placed, none-placed}
 use Rattle.history.proofs.Holds.{InEntry}
-use Rattle.history.proofs.Agree.{Agree, Step, settled, same-ready, same-reads, same-met}
+use Rattle.history.proofs.Agree.{Agree, Step, settled, same-asked, same-reads, same-met}
 
 module _ {t : Table} {m : List ℕ} {L : Ledger} (A : Agree t m L) (id : ℕ) where
-  pub same-rows : firstOf (lookupRows t m id) ≡ firstOf (lookupRowsL L id)
+  pub same-rows : (tenant : ℕ) → firstOf (lookupRows t m tenant id) ≡ firstOf (lookupRowsL L tenant id)
   unfolding lookupRows lookupRowsL
-  same-rows = same-ready A (leb contentRange id)
+  same-rows tenant = same-asked A tenant id false
 
   -- the servers opened
   same-opened : (from : ℕ) → countBelow (λ k. leb from k && reads t id k) (t .count) ≡ openedFrom L id from
@@ -69,20 +71,29 @@ module _ {t : Table} {m : List ℕ} {L : Ledger} (A : Agree t m L) (id : ℕ) wh
           let content : contentOf (valueWord (x .value)) ≡ x .value = omega (arith, w .valueSmall) in
           rw (came-placed (L .events) id x e, w .valueThere, tag, content)
 
-  pub lookup-step : Step (lookupReply t m id) t m (enter L (lookup id))
-  unfolding lookupReply enter
-  lookup-step = settled L (lookupRows t m id) (lookupRowsL L id) same-rows _ _ t m
-      (λ z. record { alike = same-reply (in-range t m id z); agrees = A })
+  pub lookup-step : (tenant : ℕ) → Step (lookupReply t m tenant id) t m (enter L (lookup tenant id))
+  unfolding lookupReply enter rowsOf doneOf
+  lookup-step tenant = settled L (lookupRows t m tenant id) (lookupRowsL L tenant id) (same-rows tenant) _ _ t m
+      (λ z. record { alike = same-reply (lookup-asked t m tenant id z .small); agrees = A })
       (λ f. A)
 
-  -- a lookup of an id in range, once a server is there
-  not-refused : id < contentRange → 0 < t .count → firstOf (lookupRows t m id) ≡ 0
-  unfolding firstOf lookupRows readyRows short
-  not-refused n l = rw (A .isSound, lt-leb contentRange id n, ne-eqb (t .count) 0 (λ e. omega arith), le-ltb (length m) (serverAt (t .capacity) (t .count)) (A .holds .long))
+  -- a lookup of an id in range by its own tenant, once a server is there
+  abbrev own : List Row
+  own = lookupRows t m (tenantOf id) id
 
-  pub looked : id < contentRange → 0 < t .count → compared (lookupReply t m id) ≡ lastWriteReply L id (lastWriteOf (L .events) id)
+  not-refused : id < contentRange → 0 < t .count → firstOf own ≡ 0
+  unfolding firstOf lookupRows askedRows readyRows short
+  not-refused n l = rw (
+    A .isSound,
+    own-in-range id n,
+    own-id id,
+    ne-eqb (t .count) 0 (λ e. omega arith),
+    le-ltb (length m) (serverAt (t .capacity) (t .count)) (A .holds .long),
+  )
+
+  pub looked : id < contentRange → 0 < t .count → compared (lookupReply t m (tenantOf id) id) ≡ lastWriteReply L id (lastWriteOf (L .events) id)
   unfolding lookupReply replyBy
   looked n l =
       let s = searchFor t m id in
-      ap compared (settle-yes (lookupRows t m id) (metReply (t .capacity) m (length (s .opened)) (s .met)) (refused (firstOf (lookupRows t m id)) 0) (not-refused n l))
+      ap compared (settle-yes own (metReply (t .capacity) m (length (s .opened)) (s .met)) (refused (firstOf own) 0) (not-refused n l))
       ∙ same-reply n

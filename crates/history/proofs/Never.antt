@@ -18,7 +18,7 @@ use Rattle.batch_answer.specs.Answer.{batchBy, tooLong, settledBatch}
 use Rattle.batch_answer.proofs.Filled.{filled-each}
 use Rattle.history.specs.Call.{Call, addServer, reweight, write, delete, lookup, batch, Compared, compared}
 use Rattle.history.specs.Machine.{State, reply, idRefusals, refusals}
-use Rattle.history.specs.Ledger.{Ledger, Version, Entered, lastWriteOf, enterBy, addServerRowsL, reweightRowsL, readyRowsL, writeRowsL, deleteRowsL, lookupRowsL, lastWriteReply, lookupL, batchRowsL, batchL, enter}
+use Rattle.history.specs.Ledger.{Ledger, Version, Entered, lastWriteOf, enterBy, addServerRowsL, reweightRowsL, askedRowsL, writeRowsL, deleteRowsL, lookupRowsL, lastWriteReply, lookupL, batchRowsL, batchL, rowsOf, doneOf, enter}
 use Rattle.history.proofs.Entering.{entered}
 use Rattle.history.proofs.Batches.{same-batch}
 use Rattle.history.proofs.Run.{Agrees, step}
@@ -55,26 +55,22 @@ unfolding lastWriteReply usual
 last-write-usual L id none = refl
 last-write-usual L id (some x) = refl
 
-batch-usual : (L : Ledger) (ids : List ℕ) → usual (batchL L ids .refusal) ≡ true
-unfolding batchL batchBy settledBatch batchRowsL tooLong settle firstOf usual
-batch-usual L ids = byBool (ltb 256 (length ids)) (λ d. rw d) (λ d. rw d)
-
 enter-usual : (L : Ledger) (c : Call) → usual (enter L c .reply .refusal) ≡ true
-unfolding enter addServerRowsL reweightRowsL readyRowsL writeRowsL deleteRowsL lookupRowsL usualRows usual
+unfolding enter rowsOf doneOf addServerRowsL reweightRowsL askedRowsL writeRowsL deleteRowsL lookupRowsL batchRowsL usualRows usual
 enter-usual L (addServer weight) = entered-usual L (addServerRowsL L weight) _ refl refl
 enter-usual L (reweight server weight) = entered-usual L (reweightRowsL L server weight) _ refl refl
-enter-usual L (write id value) = entered-usual L (writeRowsL L id value) _ refl refl
-enter-usual L (delete id) = entered-usual L (deleteRowsL L id) _ refl refl
-enter-usual L (lookup id) = entered-usual L (lookupRowsL L id) _ refl (last-write-usual L id (lastWriteOf (L .events) id))
-enter-usual L (batch ids) = batch-usual L ids
+enter-usual L (write tenant id value) = entered-usual L (writeRowsL L tenant id value) _ refl refl
+enter-usual L (delete tenant id) = entered-usual L (deleteRowsL L tenant id) _ refl refl
+enter-usual L (lookup tenant id) = entered-usual L (lookupRowsL L tenant id) _ refl (last-write-usual L id (lastWriteOf (L .events) id))
+enter-usual L (batch tenant ids) = entered-usual L (batchRowsL ids) _ refl refl
 
 -- each id of a batch has the refusal of its lookup
-ids-usual : (L : Ledger) (ids : List ℕ) (i : ℕ) → usual (nth (batchL L ids .refusals) i) ≡ true
-unfolding batchL batchBy settledBatch batchRowsL tooLong settle firstOf enter usual
-ids-usual L ids i = byBool (ltb 256 (length ids))
+ids-usual : (L : Ledger) (tenant : ℕ) (ids : List ℕ) (i : ℕ) → usual (nth (batchL L tenant ids .refusals) i) ≡ true
+unfolding batchL batchBy settledBatch batchRowsL tooLong settle firstOf enter rowsOf doneOf usual
+ids-usual L tenant ids i = byBool (ltb 256 (length ids))
     (λ d. rw (d, nth-zeros 256 i))
-    (λ d. rw d (filled-each (λ j. lookupL L (nth ids j) .reply .refusal) (length ids) (ltb-false 256 (length ids) d)
-    (λ (x : ℕ). usual x ≡ true) (λ j. enter-usual L (lookup (nth ids j))) refl i))
+    (λ d. rw d (filled-each (λ j. lookupL L tenant (nth ids j) .reply .refusal) (length ids) (ltb-false 256 (length ids) d)
+    (λ (x : ℕ). usual x ≡ true) (λ j. enter-usual L (lookup tenant (nth ids j))) refl i))
 
 -- of a state and a ledger that agree
 module _ (S : State) (L : Ledger) (A : Agrees S L) where
@@ -82,10 +78,10 @@ module _ (S : State) (L : Ledger) (A : Agrees S L) where
   unfolding idRefusals usual
   ids-never (addServer weight) i = refl
   ids-never (reweight server weight) i = refl
-  ids-never (write id value) i = refl
-  ids-never (delete id) i = refl
-  ids-never (lookup id) i = refl
-  ids-never (batch ids) i = subst (λ (b : Batch). usual (nth (b .refusals) i) ≡ true) (sym (same-batch A ids)) (ids-usual L ids i)
+  ids-never (write tenant id value) i = refl
+  ids-never (delete tenant id) i = refl
+  ids-never (lookup tenant id) i = refl
+  ids-never (batch tenant ids) i = subst (λ (b : Batch). usual (nth (b .refusals) i) ≡ true) (sym (same-batch A tenant ids)) (ids-usual L tenant ids i)
 
   pub never : (c : Call) (i : ℕ) → let number = nth (refusals S c) i in (number ≢ 1) × (number ≢ 7) × (number ≢ 10)
   unfolding refusals compared

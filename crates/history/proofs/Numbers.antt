@@ -92,21 +92,21 @@ next-same S (reweight server weight) k l = kept-by S (reweight server weight) k 
     (λ e d. eqb-false server k (not-true _ (and-l (not (eqb server k)) true e)) (sym d))
     (settle-either (reweightRows (S .table) server weight) _ (S .table) (Has (S .table) k l (k ≢ server))
     (λ _. weight-changed (S .table) k l server weight) (itself (S .table) k l (k ≢ server)))
-next-same S (write id value) k l = kept-by S (write id value) k l (Unit {0}) (λ _. tt)
-    (settle-either (writeRows (S .table) (S .medium) id value) _ (S .table) (Has (S .table) k l (Unit {0}))
+next-same S (write tenant id value) k l = kept-by S (write tenant id value) k l (Unit {0}) (λ _. tt)
+    (settle-either (writeRows (S .table) (S .medium) tenant id value) _ (S .table) (Has (S .table) k l (Unit {0}))
     (λ _. entry-added (S .table) k l (target (S .table) id)) (itself (S .table) k l (Unit {0})))
-next-same S (delete id) k l = kept-by S (delete id) k l (Unit {0}) (λ _. tt) (itself (S .table) k l (Unit {0}))
-next-same S (lookup id) k l = kept-by S (lookup id) k l (Unit {0}) (λ _. tt) (itself (S .table) k l (Unit {0}))
-next-same S (batch ids) k l = kept-by S (batch ids) k l (Unit {0}) (λ _. tt) (itself (S .table) k l (Unit {0}))
+next-same S (delete tenant id) k l = kept-by S (delete tenant id) k l (Unit {0}) (λ _. tt) (itself (S .table) k l (Unit {0}))
+next-same S (lookup tenant id) k l = kept-by S (lookup tenant id) k l (Unit {0}) (λ _. tt) (itself (S .table) k l (Unit {0}))
+next-same S (batch tenant ids) k l = kept-by S (batch tenant ids) k l (Unit {0}) (λ _. tt) (itself (S .table) k l (Unit {0}))
 
 left-both : (k : ℕ) (c : Call) (calls : List Call) → weightLeft k (c ∷ calls) ≡ true → (weightLeft k (c ∷ []) ≡ true) × (weightLeft k calls ≡ true)
 unfolding weightLeft
 left-both k (addServer weight) calls e = (refl, e)
 left-both k (reweight server weight) calls e = (rw (and-l (not (eqb server k)) (weightLeft k calls) e), and-r (not (eqb server k)) (weightLeft k calls) e)
-left-both k (write id value) calls e = (refl, e)
-left-both k (delete id) calls e = (refl, e)
-left-both k (lookup id) calls e = (refl, e)
-left-both k (batch ids) calls e = (refl, e)
+left-both k (write tenant id value) calls e = (refl, e)
+left-both k (delete tenant id) calls e = (refl, e)
+left-both k (lookup tenant id) calls e = (refl, e)
+left-both k (batch tenant ids) calls e = (refl, e)
 
 -- a list of calls, whatever the table and the medium hold
 pub servers-keep-their-number : (calls : List Call) (S : State) (k : ℕ) → k < S .table .count → SameServer S (after S calls) calls k

@@ -26,7 +26,7 @@ use Rattle.replies.proofs.Refusals.{passed, settle-yes, settle-no}
 use Rattle.server_rows.specs.ServerRows.{reweightRows}
 use Rattle.servers.specs.Servers.{reweightReply, reweightTable}
 use Rattle.history.specs.Call.{reweight, compared}
-use Rattle.history.specs.Ledger.{Ledger, put, reweightRowsL, withWeightL, enter}
+use Rattle.history.specs.Ledger.{Ledger, put, reweightRowsL, withWeightL, rowsOf, doneOf, enter}
 use Rattle.history.proofs.Holds.{Holds}
 use Rattle.history.proofs.Agree.{Agree, put-is, Step, settled}
 
@@ -99,7 +99,7 @@ module _ {t : Table} {m : List ℕ} {L : Ledger} (A : Agree t m L) (server weigh
     }
 
   pub reweight-step : Step (reweightReply t server weight) (reweightTable t server weight) m (enter L (reweight server weight))
-  unfolding reweightReply reweightTable enter reweightRows compared
+  unfolding reweightReply reweightTable enter rowsOf doneOf reweightRows compared
   reweight-step = settled L (reweightRows t server weight) (reweightRowsL L server weight) same-rows _ _ (reweightTable t server weight) m
       (λ z.
       let a = passed 0 _ _ z in

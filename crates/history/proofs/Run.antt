@@ -1,7 +1,7 @@
 -- A started table over blank words agrees with the fresh ledger, and every list of calls keeps them in agreement.
 -- Assumes nothing.
 use Prim.Native.Nat.{ℕ}
-use mathlib.Core.Path.{_≡_, refl, ap, ap₂}
+use mathlib.Core.Path.{_≡_, refl, ap₂}
 use mathlib.Core.Bool.{true, not, _&&_}
 use mathlib.Core.List.{List, [], _∷_, map}
 use native.Mathlib.Omega.{arith}
@@ -17,9 +17,8 @@ use Rattle.replies.specs.Refusal.{firstOf}
 use Rattle.replies.proofs.Refusals.{passed, settle-yes}
 use Rattle.server_rows.specs.ServerRows.{startRows}
 use Rattle.servers.specs.Servers.{startTable}
-use Rattle.batch_answer.specs.declared.Batch.{Batch}
 use Rattle.history.specs.Call.{Call, addServer, reweight, write, delete, lookup, batch, Compared, compared}
-use Rattle.history.specs.Machine.{State, inBrief, reply, next, after, replies, begin}
+use Rattle.history.specs.Machine.{State, reply, next, after, replies, begin}
 use Rattle.history.specs.Ledger.{Ledger, freshLedger, usedBy, enter, ledgerAfter, ledgerReplies}
 use Rattle.history.proofs.Tops.{TopAt}
 use Rattle.history.proofs.Events.{placeOf, each-none}
@@ -29,7 +28,7 @@ use Rattle.history.proofs.ReweightStep.{reweight-step}
 use Rattle.history.proofs.WriteStep.{write-step}
 use Rattle.history.proofs.DeleteStep.{delete-step}
 use Rattle.history.proofs.LookupStep.{lookup-step}
-use Rattle.history.proofs.Batches.{same-batch}
+use Rattle.history.proofs.Batches.{batch-step}
 
 abbrev pub Agrees : State → Ledger → Type 0
 Agrees S L = Agree (S .table) (S .medium) L
@@ -66,13 +65,13 @@ begin-agrees capacity n z =
     })
 
 pub step : (S : State) (L : Ledger) → Agrees S L → (c : Call) → Step (reply S c) (next S c .table) (next S c .medium) (enter L c)
-unfolding reply next enter compared
+unfolding reply next
 step S L A (addServer weight) = add-server-step A weight
 step S L A (reweight server weight) = reweight-step A server weight
-step S L A (write id value) = write-step A id value
-step S L A (delete id) = delete-step A id
-step S L A (lookup id) = lookup-step A id
-step S L A (batch ids) = record { alike = ap (λ (b : Batch). compared (inBrief b)) (same-batch A ids); agrees = A }
+step S L A (write tenant id value) = write-step A tenant id value
+step S L A (delete tenant id) = delete-step A id tenant
+step S L A (lookup tenant id) = lookup-step A id tenant
+step S L A (batch tenant ids) = batch-step A tenant ids
 
 pub record Ran (S : State) (L : Ledger) (calls : List Call) : Type 0 where
   pub alike : map compared (replies S calls) ≡ ledgerReplies L calls

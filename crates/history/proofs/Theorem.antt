@@ -9,6 +9,7 @@ use native.Mathlib.Omega.{arith}
 use lib.ListN.{length}
 use Rattle.limits.specs.Limits.{contentRange}
 use Rattle.lists.specs.Below.{nth}
+use Rattle.tenants.specs.Tenant.{tenantOf}
 use Rattle.medium.specs.Entry.{entryWords, entryAt}
 use Rattle.medium.proofs.Places.{entry-apart}
 use Rattle.replies.specs.Refusal.{firstOf}
@@ -31,7 +32,7 @@ use Rattle.history.proofs.Counting.{live-writes}
 -- of a state and a ledger that agree
 module _ (S : State) (L : Ledger) (A : Agrees S L) where
   abbrev reply : ℕ → Reply
-  reply id = lookupReply (S .table) (S .medium) id
+  reply id = lookupReply (S .table) (S .medium) (tenantOf id) id
 
   onMedium : (newer older : List Event) (id value server : ℕ) → L .events ≡ newer ++ (wrote id value server ∷ older) → OnMedium S L id value server (usedBy older server)
   onMedium newer older id value server e =
@@ -94,7 +95,7 @@ demand3 capacity n z calls =
     let A : Agrees (stateThen capacity n calls) (ledgerThen capacity n calls) = r .agrees in
     record {
       alike = r .alike;
-      batches = λ before later ids e. same-batch (run before (begin capacity n) (freshLedger capacity n) (begin-agrees capacity n z) .agrees) ids;
+      batches = λ before later tenant ids e. same-batch (run before (begin capacity n) (freshLedger capacity n) (begin-agrees capacity n z) .agrees) tenant ids;
       finds = λ id value server w. finds S L A id (record { value = value; server = server }) (last-written (L .events) id value server w);
       absent = λ id s l. (
         λ e value server w. not-both (absent S L A id s l .0 e) (last-written (L .events) id value server w),

@@ -14,10 +14,10 @@ next-once : (S : State) (c : Call) (a : ℕ) → nth (S .medium) a ≢ blank →
 unfolding next
 next-once S (addServer weight) a f = refl
 next-once S (reweight server weight) a f = refl
-next-once S (write id value) a f = write-once (S .table) (S .medium) id value a f
-next-once S (delete id) a f = delete-once (S .table) (S .medium) id a f
-next-once S (lookup id) a f = refl
-next-once S (batch ids) a f = refl
+next-once S (write tenant id value) a f = write-once (S .table) (S .medium) tenant id value a f
+next-once S (delete tenant id) a f = delete-once (S .table) (S .medium) tenant id a f
+next-once S (lookup tenant id) a f = refl
+next-once S (batch tenant ids) a f = refl
 
 pub after-once : (calls : List Call) (S : State) (a : ℕ) → nth (S .medium) a ≢ blank → nth (after S calls .medium) a ≡ nth (S .medium) a
 unfolding after

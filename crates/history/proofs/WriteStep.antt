@@ -25,17 +25,17 @@ use Rattle.table.proofs.Soundness.{sound-facts}
 use Rattle.upkeep.proofs.KeptSound.{withEntry-sound}
 use Rattle.replies.specs.Refusal.{firstOf}
 use Rattle.replies.proofs.Refusals.{more-same, settle-yes, settle-no}
-use Rattle.checks.proofs.Passed.{ready-numbered, ready-tests}
+use Rattle.checks.proofs.Passed.{asked-numbered, asked-tests}
 use Rattle.planning.specs.WriteRows.{target, entryRows, writeRows}
 use Rattle.writing.specs.Writing.{writeMarks, writeBurns, writeReply, writeTable, writeMedium}
 use Rattle.planning.proofs.Passed.{write-accepted}
 use Rattle.history.specs.Call.{write, compared}
-use Rattle.history.specs.Ledger.{wrote, Ledger, told, usedBy, withEvent, writeRowsL, enter}
+use Rattle.history.specs.Ledger.{wrote, Ledger, told, usedBy, withEvent, writeRowsL, rowsOf, doneOf, enter}
 use Rattle.history.proofs.Events.{used-self, used-other}
 use Rattle.history.proofs.WrittenMedium.{withWords, afterWrite, Accepted, write-holds}
-use Rattle.history.proofs.Agree.{Agree, Step, settled, same-ready, ledger-numbered, same-target, same-reads, same-marks}
+use Rattle.history.proofs.Agree.{Agree, Step, settled, same-asked, ledger-numbered, same-target, same-reads, same-marks}
 
-module _ {t : Table} {m : List ℕ} {L : Ledger} (A : Agree t m L) (id value : ℕ) where
+module _ {t : Table} {m : List ℕ} {L : Ledger} (A : Agree t m L) (tenant id value : ℕ) where
   abbrev server : ℕ
   server = target t id
 
@@ -52,10 +52,10 @@ module _ {t : Table} {m : List ℕ} {L : Ledger} (A : Agree t m L) (id value : �
       let u = A .used server l in
       blank-run m (entryAt (t .capacity) server (usedOf t server)) 3 (λ q b. A .holds .free server (usedOf t server) q l (omega arith) (omega arith) b)
 
-  pub same-rows : firstOf (writeRows t m id value) ≡ firstOf (writeRowsL L id value)
+  pub same-rows : firstOf (writeRows t m tenant id value) ≡ firstOf (writeRowsL L tenant id value)
   unfolding writeRows writeRowsL entryRows firstOf
-  same-rows = more-same _ _ _ _ (ready-numbered t m _) (ledger-numbered L _) (same-ready A _) (λ z.
-      let l = target-there (eqb-false (t .count) 0 (ready-tests t m _ z .none)) in
+  same-rows = more-same _ _ _ _ (asked-numbered t m tenant id _) (ledger-numbered L tenant id _) (same-asked A tenant id _) (λ z.
+      let l = target-there (eqb-false (t .count) 0 (asked-tests t m tenant id _ z .none)) in
       let e6 = ap₂ eqb (A .used server l ∙ ap (usedBy (L .events)) (same-target A id)) (A .capacity) in
       byBool (eqb (usedOf t server) (t .capacity))
       (λ e. rw (e, sym e6 ∙ e))
@@ -70,11 +70,11 @@ module _ {t : Table} {m : List ℕ} {L : Ledger} (A : Agree t m L) (id value : �
       ∙ exceeds-grows modulus (writeP (weightOf t) server) (readP t server) (drawOf id server) (s .positive) (s .reads)
       (writeServer-is (weightOf t) (t .count) id (omega arith) .takesIt)
 
-  pub accepted : firstOf (writeRows t m id value) ≡ 0 → Accepted (t .capacity) (t .count) (L .greatest) (L .events) id value server
+  pub accepted : firstOf (writeRows t m tenant id value) ≡ 0 → Accepted (t .capacity) (t .count) (L .greatest) (L .events) id value server
   accepted z =
-      let a = write-accepted t m id value z in
+      let a = write-accepted t m tenant id value z in
       record {
-        small = a .idSmall;
+        small = a .asked .small;
         smallValue = a .small;
         there = a .there;
         room = omega (arith, a .free, A .used server (a .there));
@@ -112,12 +112,12 @@ module _ {t : Table} {m : List ℕ} {L : Ledger} (A : Agree t m L) (id value : �
       holds = rw (write-medium (W .there)) (write-holds (A .holds) W);
     }
 
-  pub write-step : Step (writeReply t m id value) (writeTable t m id value) (writeMedium t m id value) (enter L (write id value))
-  unfolding writeReply writeTable writeMedium enter compared
-  write-step = settled L (writeRows t m id value) (writeRowsL L id value) same-rows _ _ (writeTable t m id value) (writeMedium t m id value)
-      (λ z. rw (settle-yes (writeRows t m id value) (withEntry t server) t z, settle-yes (writeRows t m id value) (burnAll m (writeBurns t m id value)) m z)
+  pub write-step : Step (writeReply t m tenant id value) (writeTable t m tenant id value) (writeMedium t m tenant id value) (enter L (write tenant id value))
+  unfolding writeReply writeTable writeMedium enter rowsOf doneOf compared
+  write-step = settled L (writeRows t m tenant id value) (writeRowsL L tenant id value) same-rows _ _ (writeTable t m tenant id value) (writeMedium t m tenant id value)
+      (λ z. rw (settle-yes (writeRows t m tenant id value) (withEntry t server) t z, settle-yes (writeRows t m tenant id value) (burnAll m (writeBurns t m id value)) m z)
       (record {
         alike = ap (λ (k : ℕ). told 0 k 0 0) (same-target A id);
         agrees = rw (← (same-target A id)) (agrees (accepted z));
       }))
-      (λ f. rw (settle-no (writeRows t m id value) (withEntry t server) t f, settle-no (writeRows t m id value) (burnAll m (writeBurns t m id value)) m f) A)
+      (λ f. rw (settle-no (writeRows t m tenant id value) (withEntry t server) t f, settle-no (writeRows t m tenant id value) (burnAll m (writeBurns t m id value)) m f) A)

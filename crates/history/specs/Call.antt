@@ -3,14 +3,14 @@ use Prim.Native.Nat.{ℕ}
 use mathlib.Core.List.{List}
 use Rattle.replies.specs.declared.Reply.{Reply}
 
--- the calls with their arguments; start is none of them
+-- the calls with their arguments, first the caller's tenant where a call has one; start is none of them
 pub data Call : Type 0 where
   addServer : ℕ → Call
   reweight : ℕ → ℕ → Call
-  write : ℕ → ℕ → Call
-  delete : ℕ → Call
-  lookup : ℕ → Call
-  batch : List ℕ → Call
+  write : ℕ → ℕ → ℕ → Call
+  delete : ℕ → ℕ → Call
+  lookup : ℕ → ℕ → Call
+  batch : ℕ → List ℕ → Call
 
 -- refusal number, server, value and opened count; one that a reply does not carry is 0
 pub record Compared : Type 0 where

@@ -1,4 +1,5 @@
--- The third demand: what holds after every list of calls, batches of lookups among them, from a fresh table and blank words.
+-- The third demand: what holds after every list of calls, batches of lookups among them, from a fresh table and blank words. A call
+-- of any tenant may come anywhere in the list.
 use Prim.Native.Nat.{ℕ, _+_, _≤_, _<_}
 use mathlib.Core.Bool.{Bool, true, not, _&&_}
 use mathlib.Core.Path.{_≡_}
@@ -8,6 +9,7 @@ use lib.ListN.{length}
 use lib.Dec.{eqb}
 use Rattle.limits.specs.Limits.{contentRange}
 use Rattle.lists.specs.Below.{nth}
+use Rattle.tenants.specs.Tenant.{tenantOf}
 use Rattle.medium.specs.Word.{idWord, valueWord, blank}
 use Rattle.medium.specs.Entry.{entryWords, entryAt, valueAt}
 use Rattle.replies.specs.declared.Reply.{Reply}
@@ -38,7 +40,7 @@ pub record OnMedium (S : State) (L : Ledger) (id value server j : ℕ) : Type 0 
   pub valueThere : nth (S .medium) (valueAt (L .capacity) server j) ≡ valueWord value
 
 module _ (capacity n : ℕ) (calls : List Call) where
-  -- state and ledger after the list, its events, and what a lookup then replies
+  -- state and ledger after the list, its events, and what a lookup by the id's own tenant then replies
   abbrev pub stateThen : State
   stateThen = after (begin capacity n) calls
 
@@ -49,7 +51,7 @@ module _ (capacity n : ℕ) (calls : List Call) where
   eventsThen = ledgerThen .events
 
   abbrev pub lookupThen : ℕ → Reply
-  lookupThen id = lookupReply (stateThen .table) (stateThen .medium) id
+  lookupThen id = lookupReply (stateThen .table) (stateThen .medium) (tenantOf id) id
 
 module _ (capacity n : ℕ) (calls : List Call) where
   abbrev S : State
@@ -65,9 +67,9 @@ module _ (capacity n : ℕ) (calls : List Call) where
     -- each call answers with the refusal number, server, value and opened count that the ledger gives
     pub alike : map compared (replies (begin capacity n) calls) ≡ ledgerReplies (freshLedger capacity n) calls
     -- and each batch of lookups with the ledger's whole answer
-    pub batches : (before later : List Call) (ids : List ℕ) → before ++ (batch ids ∷ later) ≡ calls
-        → batchReply (stateThen capacity n before .table) (stateThen capacity n before .medium) ids ≡ batchL (ledgerThen capacity n before) ids
-    -- a lookup finds the value of the last accepted write of the id with no accepted delete afterwards
+    pub batches : (before later : List Call) (tenant : ℕ) (ids : List ℕ) → before ++ (batch tenant ids ∷ later) ≡ calls
+        → batchReply (stateThen capacity n before .table) (stateThen capacity n before .medium) tenant ids ≡ batchL (ledgerThen capacity n before) tenant ids
+    -- a lookup by the id's own tenant finds the value of the last accepted write of the id with no accepted delete afterwards
     pub finds : (id value server : ℕ) → LastWrite (L .events) id value server
         → (lookedUp id .refusal ≡ 0) × (lookedUp id .value ≡ value)
     -- and answers 'absent' exactly when there is no such write, once a server is there and for ids in range

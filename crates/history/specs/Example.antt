@@ -1,4 +1,4 @@
--- Document 01's worked example: the ledger's replies, the archive's, and words 24 to 26.
+-- Document 01's worked example, its calls by the tenant of its id: the ledger's replies, the archive's, and words 24 to 26.
 use Prim.Native.Nat.{ℕ}
 use mathlib.Core.Path.{_≡_}
 use mathlib.Core.List.{List, [], _∷_, map}
@@ -14,13 +14,13 @@ calls =
     addServer 1
     ∷ addServer 0
     ∷ addServer 2
-    ∷ write 626627286 500
-    ∷ lookup 626627286
+    ∷ write 4 626627286 500
+    ∷ lookup 4 626627286
     ∷ reweight 0 2
-    ∷ write 626627286 740
-    ∷ lookup 626627286
-    ∷ delete 626627286
-    ∷ lookup 626627286
+    ∷ write 4 626627286 740
+    ∷ lookup 4 626627286
+    ∷ delete 4 626627286
+    ∷ lookup 4 626627286
     ∷ []
 
 -- the paper's lines: F server, W server and invalidated, L value and opened, G server, D invalidated

@@ -1,6 +1,6 @@
--- The plain ledger (document 01, "The plain ledger"). It is fed the capacity, the medium's length and the calls' arguments,
--- and nothing from table or medium; of the archive it shares the published rule, which of two fractions is kept (`raise`), and how
--- rows of refusals and the parts of a batch are put together.
+-- The plain ledger (document 01, "The plain ledger"; document 02, item 2). It is fed the capacity, the medium's length and the
+-- calls' arguments, and nothing from table or medium; of the archive it shares the published rule, which of two fractions is kept
+-- (`raise`), whose an id is, and how rows of refusals and the parts of a batch are put together.
 use Prim.Native.Nat.{ℕ, suc, _+_, _-_, _*_}
 use mathlib.Core.Bool.{Bool, true, false, cond, not, _&&_, _||_}
 use mathlib.Core.List.{List, [], _∷_, _++_}
@@ -9,6 +9,7 @@ use lib.ListN.{length}
 use lib.Dec.{leb, ltb, eqb}
 use Rattle.limits.specs.Limits.{maxServers, contentRange}
 use Rattle.lists.specs.Below.{nth, countBelow}
+use Rattle.tenants.specs.Tenant.{outOfRange, ofAnother}
 use Rattle.placement.specs.declared.Fraction.{Fraction}
 use Rattle.placement.specs.Fraction.{raise}
 use Rattle.placement.specs.Rule.{writeP, writeServer, readable}
@@ -140,10 +141,12 @@ withWeightL L server weight =
 unfoldable pub shortL : Ledger → Bool
 shortL L = ltb (L .words) (wordsFor L (L .servers))
 
--- the rows that write, delete and lookup share; `outside` says whether an argument of the call is out of range
-unfoldable pub readyRowsL : Ledger → Bool → List Row
-readyRowsL L outside =
-    2 when outside
+-- the rows that write, delete and lookup share, for a tenant and an id; `outside` says whether another argument of the call is out
+-- of range
+unfoldable pub askedRowsL : Ledger → ℕ → ℕ → Bool → List Row
+askedRowsL L tenant id outside =
+    2 when (outside || outOfRange tenant id)
+    ∷ 11 when ofAnother tenant id
     ∷ 3 when eqb (L .servers) 0
     ∷ 5 when shortL L
     ∷ []
@@ -163,23 +166,23 @@ withEvent L event = record {
 unfoldable pub targetL : Ledger → ℕ → ℕ
 targetL L id = writeServer (L .weight) (L .servers) id
 
-unfoldable pub writeRowsL : Ledger → ℕ → ℕ → List Row
-writeRowsL L id value =
-    readyRowsL L (leb contentRange id || leb contentRange value)
+unfoldable pub writeRowsL : Ledger → ℕ → ℕ → ℕ → List Row
+writeRowsL L tenant id value =
+    askedRowsL L tenant id (leb contentRange value)
     ++ (6 when eqb (usedBy (L .events) (targetL L id)) (entriesL L) ∷ [])
 
 -- delete
 
-unfoldable pub deleteRowsL : Ledger → ℕ → List Row
-deleteRowsL L id =
-    readyRowsL L (leb contentRange id)
+unfoldable pub deleteRowsL : Ledger → ℕ → ℕ → List Row
+deleteRowsL L tenant id =
+    askedRowsL L tenant id false
     ++ (8 when not (isWritten (lastWriteOf (L .events) id)) ∷ [])
 
 -- lookup: the value of the id's last write, or 8; the servers from that write's upward whose greatest WriteP exceeds their
 -- draw, or all such servers
 
-unfoldable pub lookupRowsL : Ledger → ℕ → List Row
-lookupRowsL L id = readyRowsL L (leb contentRange id)
+unfoldable pub lookupRowsL : Ledger → ℕ → ℕ → List Row
+lookupRowsL L tenant id = askedRowsL L tenant id false
 
 unfoldable pub openedFrom : Ledger → ℕ → ℕ → ℕ
 openedFrom L id from = countBelow (λ k. leb from k && readable (L .greatest) id k) (L .servers)
@@ -189,8 +192,8 @@ lastWriteReply L id none = told 8 0 0 (openedFrom L id 0)
 lastWriteReply L id (some x) = told 0 0 (x .value) (openedFrom L id (x .server))
 
 -- a lookup changes nothing
-abbrev pub lookupL : Ledger → ℕ → Entered
-lookupL L id = enterBy L (lookupRowsL L id) (record { reply = lastWriteReply L id (lastWriteOf (L .events) id); ledger = L })
+abbrev pub lookupL : Ledger → ℕ → ℕ → Entered
+lookupL L tenant id = enterBy L (lookupRowsL L tenant id) (record { reply = lastWriteReply L id (lastWriteOf (L .events) id); ledger = L })
 
 -- a batch of lookups, which changes nothing: the replies of its lookups, and the servers that they open
 
@@ -199,38 +202,48 @@ unfoldable pub lowestL : Option Version → ℕ
 lowestL none = 0
 lowestL (some x) = x .server
 
-unfoldable pub opensL : Ledger → ℕ → ℕ → Bool
-opensL L id k = settle (lookupRowsL L id) (leb (lowestL (lastWriteOf (L .events) id)) k && readable (L .greatest) id k) false
+unfoldable pub opensL : Ledger → ℕ → ℕ → ℕ → Bool
+opensL L tenant id k = settle (lookupRowsL L tenant id) (leb (lowestL (lastWriteOf (L .events) id)) k && readable (L .greatest) id k) false
 
-unfoldable pub openedAtL : Ledger → List ℕ → ℕ → ℕ → Bool
-openedAtL L ids i k = opensL L (nth ids i) k
+unfoldable pub openedAtL : Ledger → ℕ → List ℕ → ℕ → ℕ → Bool
+openedAtL L tenant ids i k = opensL L tenant (nth ids i) k
 
 unfoldable pub batchRowsL : List ℕ → List Row
 batchRowsL ids = 2 when tooLong ids ∷ []
 
-unfoldable pub batchL : Ledger → List ℕ → Batch
-batchL L ids =
+unfoldable pub batchL : Ledger → ℕ → List ℕ → Batch
+batchL L tenant ids =
     settledBatch (batchRowsL ids)
     (batchBy
-    (λ i. lookupL L (nth ids i) .reply .refusal)
-    (λ i. lookupL L (nth ids i) .reply .value)
-    (λ i. lookupL L (nth ids i) .reply .opened)
-    (openedAtL L ids)
+    (λ i. lookupL L tenant (nth ids i) .reply .refusal)
+    (λ i. lookupL L tenant (nth ids i) .reply .value)
+    (λ i. lookupL L tenant (nth ids i) .reply .opened)
+    (openedAtL L tenant ids)
     (length ids)
     (L .servers))
 
-unfoldable pub enter : Ledger → Call → Entered
-enter L (addServer weight) =
-    enterBy L (addServerRowsL L weight) (record { reply = told 0 (L .servers) 0 0; ledger = withServerL L weight })
-enter L (reweight server weight) =
-    enterBy L (reweightRowsL L server weight) (record { reply = told 0 server 0 0; ledger = withWeightL L server weight })
-enter L (write id value) =
+-- each call: its rows of refusals, and what it makes of the ledger where none applies
+
+unfoldable pub rowsOf : Ledger → Call → List Row
+rowsOf L (addServer weight) = addServerRowsL L weight
+rowsOf L (reweight server weight) = reweightRowsL L server weight
+rowsOf L (write tenant id value) = writeRowsL L tenant id value
+rowsOf L (delete tenant id) = deleteRowsL L tenant id
+rowsOf L (lookup tenant id) = lookupRowsL L tenant id
+rowsOf L (batch tenant ids) = batchRowsL ids
+
+unfoldable pub doneOf : Ledger → Call → Entered
+doneOf L (addServer weight) = record { reply = told 0 (L .servers) 0 0; ledger = withServerL L weight }
+doneOf L (reweight server weight) = record { reply = told 0 server 0 0; ledger = withWeightL L server weight }
+doneOf L (write tenant id value) =
     let k = targetL L id in
-    enterBy L (writeRowsL L id value) (record { reply = told 0 k 0 0; ledger = withEvent L (wrote id value k) })
-enter L (delete id) =
-    enterBy L (deleteRowsL L id) (record { reply = told 0 0 0 0; ledger = withEvent L (removed id) })
-enter L (lookup id) = lookupL L id
-enter L (batch ids) = record { reply = told (batchL L ids .refusal) 0 0 0; ledger = L }
+    record { reply = told 0 k 0 0; ledger = withEvent L (wrote id value k) }
+doneOf L (delete tenant id) = record { reply = told 0 0 0 0; ledger = withEvent L (removed id) }
+doneOf L (lookup tenant id) = record { reply = lastWriteReply L id (lastWriteOf (L .events) id); ledger = L }
+doneOf L (batch tenant ids) = record { reply = told 0 0 0 0; ledger = L }
+
+unfoldable pub enter : Ledger → Call → Entered
+enter L c = enterBy L (rowsOf L c) (doneOf L c)
 
 unfoldable pub ledgerAfter : Ledger → List Call → Ledger
 ledgerAfter L [] = L

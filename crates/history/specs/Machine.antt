@@ -31,19 +31,19 @@ inBrief b = refused (b .refusal) 0
 unfoldable pub reply : State → Call → Reply
 reply S (addServer weight) = addServerReply (S .table) (S .medium) weight
 reply S (reweight server weight) = reweightReply (S .table) server weight
-reply S (write id value) = writeReply (S .table) (S .medium) id value
-reply S (delete id) = deleteReply (S .table) (S .medium) id
-reply S (lookup id) = lookupReply (S .table) (S .medium) id
-reply S (batch ids) = inBrief (batchReply (S .table) (S .medium) ids)
+reply S (write tenant id value) = writeReply (S .table) (S .medium) tenant id value
+reply S (delete tenant id) = deleteReply (S .table) (S .medium) tenant id
+reply S (lookup tenant id) = lookupReply (S .table) (S .medium) tenant id
+reply S (batch tenant ids) = inBrief (batchReply (S .table) (S .medium) tenant ids)
 
 -- the refusal numbers of the ids of a batch; no other call has any
 unfoldable pub idRefusals : State → Call → List ℕ
 idRefusals S (addServer weight) = []
 idRefusals S (reweight server weight) = []
-idRefusals S (write id value) = []
-idRefusals S (delete id) = []
-idRefusals S (lookup id) = []
-idRefusals S (batch ids) = batchReply (S .table) (S .medium) ids .refusals
+idRefusals S (write tenant id value) = []
+idRefusals S (delete tenant id) = []
+idRefusals S (lookup tenant id) = []
+idRefusals S (batch tenant ids) = batchReply (S .table) (S .medium) tenant ids .refusals
 
 -- every refusal number that a call answers: its reply's, and those of the ids
 unfoldable pub refusals : State → Call → List ℕ
@@ -52,10 +52,10 @@ refusals S c = reply S c .refusal ∷ idRefusals S c
 unfoldable pub next : State → Call → State
 next S (addServer weight) = record { table = addServerTable (S .table) (S .medium) weight; medium = S .medium }
 next S (reweight server weight) = record { table = reweightTable (S .table) server weight; medium = S .medium }
-next S (write id value) = record { table = writeTable (S .table) (S .medium) id value; medium = writeMedium (S .table) (S .medium) id value }
-next S (delete id) = record { table = S .table; medium = deleteMedium (S .table) (S .medium) id }
-next S (lookup id) = S
-next S (batch ids) = S
+next S (write tenant id value) = record { table = writeTable (S .table) (S .medium) tenant id value; medium = writeMedium (S .table) (S .medium) tenant id value }
+next S (delete tenant id) = record { table = S .table; medium = deleteMedium (S .table) (S .medium) tenant id }
+next S (lookup tenant id) = S
+next S (batch tenant ids) = S
 
 unfoldable pub after : State → List Call → State
 after S [] = S

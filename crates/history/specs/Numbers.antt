@@ -13,10 +13,10 @@ unfoldable pub weightLeft : ℕ → List Call → Bool
 weightLeft k [] = true
 weightLeft k (reweight server weight ∷ calls) = not (eqb server k) && weightLeft k calls
 weightLeft k (addServer weight ∷ calls) = weightLeft k calls
-weightLeft k (write id value ∷ calls) = weightLeft k calls
-weightLeft k (delete id ∷ calls) = weightLeft k calls
-weightLeft k (lookup id ∷ calls) = weightLeft k calls
-weightLeft k (batch ids ∷ calls) = weightLeft k calls
+weightLeft k (write tenant id value ∷ calls) = weightLeft k calls
+weightLeft k (delete tenant id ∷ calls) = weightLeft k calls
+weightLeft k (lookup tenant id ∷ calls) = weightLeft k calls
+weightLeft k (batch tenant ids ∷ calls) = weightLeft k calls
 
 -- server k of a state is server k of a later one: it is there, its words stand where they stood, its used has not fallen, and
 -- its weight is the one that it had unless a call was a reweight of it

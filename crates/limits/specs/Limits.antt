@@ -20,3 +20,11 @@ maxIds = 256
 -- 2^30: ids and values are below it, and so is the content of a word, which has 30 bits
 abbrev pub contentRange : ℕ
 contentRange = 1073741824
+
+-- tenants: their numbers are below it
+abbrev pub tenants : ℕ
+tenants = 8
+
+-- 2^27, the ids of each tenant
+abbrev pub tenantRange : ℕ
+tenantRange = 134217728

@@ -15,5 +15,11 @@ pub const MAX_IDS: usize = 256;
 // 2^30: ids and values are below it, and so is the content of a word, which has 30 bits.
 pub const CONTENT_RANGE: u32 = 1073741824;
 
+// Tenants: their numbers are below it.
+pub const TENANTS: u32 = 8;
+
+// 2^27, the ids of each tenant.
+pub const TENANT_RANGE: u32 = 134217728;
+
 // A column of a table: it has a number for each server that there may be.
 pub type Column = [u32; MAX_SERVERS];

@@ -38,22 +38,22 @@ module _ (s : Search) {f : SearchAnswer} (e : f ≡ answerOf s) where
           let b : p .entry ≡ j = cc in
           (q ∙ ap₂ (λ (x y : ℕ). some (record { server = x; entry = y })) a b, cc)
 
-module _ (t : Table) (m : List ℕ) (id : ℕ) (z : firstOf (lookupRows t m id) ≡ 0) where
+module _ (t : Table) (m : List ℕ) (tenant id : ℕ) (z : firstOf (lookupRows t m tenant id) ≡ 0) where
   -- lookup met nothing, or this entry
-  pub looked-none : {r : SearchAnswer} (n : ℕ) → r ≡ answerOf (searchFor t m id) → r ≡ Nowhere n → refused 8 n ≡ lookupReply t m id
+  pub looked-none : {r : SearchAnswer} (n : ℕ) → r ≡ answerOf (searchFor t m id) → r ≡ Nowhere n → refused 8 n ≡ lookupReply t m tenant id
   unfolding lookupReply metReply
   looked-none n e g =
       let f = answer-none (searchFor t m id) e n g in
-      sym (reply-done (lookupRows t m id) z _ ∙ ap₂ (metReply (t .capacity) m) (f .1) (f .0))
+      sym (reply-done (lookupRows t m tenant id) z _ ∙ ap₂ (metReply (t .capacity) m) (f .1) (f .0))
 
   pub looked-some : {r : SearchAnswer} (k j n : ℕ) → r ≡ answerOf (searchFor t m id) → r ≡ At k j n
-      → metReply (t .capacity) m n (some (record { server = k; entry = j })) ≡ lookupReply t m id
+      → metReply (t .capacity) m n (some (record { server = k; entry = j })) ≡ lookupReply t m tenant id
   unfolding lookupReply
   looked-some k j n e g =
       let f = answer-some (searchFor t m id) e k j n g in
-      sym (reply-done (lookupRows t m id) z _ ∙ ap₂ (metReply (t .capacity) m) (f .1) (f .0))
+      sym (reply-done (lookupRows t m tenant id) z _ ∙ ap₂ (metReply (t .capacity) m) (f .1) (f .0))
 
 -- a lookup that its tests refuse
-pub lookup-refused : (t : Table) (m : List ℕ) (id : ℕ) (r : Refusal) → numberOf r ≡ firstOf (lookupRows t m id) → refused (numberOf r) 0 ≡ lookupReply t m id
+pub lookup-refused : (t : Table) (m : List ℕ) (tenant id : ℕ) (r : Refusal) → numberOf r ≡ firstOf (lookupRows t m tenant id) → refused (numberOf r) 0 ≡ lookupReply t m tenant id
 unfolding lookupReply
-lookup-refused t m id r e = reply-refused (lookupRows t m id) r e _
+lookup-refused t m tenant id r e = reply-refused (lookupRows t m tenant id) r e _

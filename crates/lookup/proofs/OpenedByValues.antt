@@ -26,7 +26,7 @@ use Rattle.replies.specs.Reply.{refused, found}
 use Rattle.replies.proofs.Refusals.{reply-same}
 use Rattle.search.specs.Search.{Place, Search, lastLive, opening, searchBelow, searchFor}
 use Rattle.checks.specs.Ready.{short}
-use Rattle.checks.proofs.Passed.{ready-same}
+use Rattle.checks.proofs.Passed.{asked-same}
 use Rattle.lookup.specs.Lookup.{lookupRows, metReply, lookupReply}
 use Rattle.search.specs.Opened.{lowest, opens, SameOpened}
 use Rattle.search.proofs.Searches.{reads-same, search-cases, search-low, met-some}
@@ -86,12 +86,12 @@ module _ (t u : Table) (m w : List ℕ) (id : ℕ) where
     same-reply n none e = refl
     same-reply n (some p) e = ap (λ (x : ℕ). cond (eqb (tagOf x) 1) (found (contentOf x) n) (refused 10 n)) (same-value p e)
 
-    same-rows : firstOf (lookupRows t m id) ≡ firstOf (lookupRows u w id)
+    same-rows : (tenant : ℕ) → firstOf (lookupRows t m tenant id) ≡ firstOf (lookupRows u w tenant id)
     unfolding lookupRows short
-    same-rows = ready-same t u m w _ (s ∙ sym q) (a .count) (ap₂ ltb (a .long) (ap₂ serverAt (a .capacity) (a .count)))
+    same-rows tenant = asked-same t u m w tenant id _ (s ∙ sym q) (a .count) (ap₂ ltb (a .long) (ap₂ serverAt (a .capacity) (a .count)))
 
-    pub opened-by-values : lookupReply t m id ≡ lookupReply u w id
+    pub opened-by-values : (tenant : ℕ) → lookupReply t m tenant id ≡ lookupReply u w tenant id
     unfolding lookupReply
-    opened-by-values = reply-same (lookupRows t m id) (lookupRows u w id) same-rows _ _ (λ _.
+    opened-by-values tenant = reply-same (lookupRows t m tenant id) (lookupRows u w tenant id) (same-rows tenant) _ _ (λ _.
         same-reply _ (searchFor t m id .met) refl
         ∙ ap (λ (x : Search). metReply (u .capacity) w (length (x .opened)) (x .met)) same-met)

@@ -19,7 +19,7 @@ use Rattle.table.specs.Parts.{weightOf, readP, reads}
 use Rattle.table.specs.Sound.{sound}
 use Rattle.table.proofs.Soundness.{sound-facts}
 use Rattle.replies.specs.Refusal.{firstOf}
-use Rattle.checks.proofs.Passed.{ready-tests}
+use Rattle.checks.proofs.Passed.{asked-tests}
 use Rattle.search.specs.Search.{Place, searchFor}
 use Rattle.lookup.specs.Lookup.{lookupRows}
 use Rattle.search.specs.Opened.{lowest, opens}
@@ -33,10 +33,10 @@ zero-read t s l id =
     let k = sound-facts t s .server 0 l in
     exceeds-grows modulus (writeP (weightOf t) 0) (readP t 0) (drawOf id 0) (k .positive) (k .reads) (zero-takes modulus (drawOf id) (weightOf t) (draw< id 0))
 
-module _ (t : Table) (m : List ℕ) (id : ℕ) (z : firstOf (lookupRows t m id) ≡ 0) where
+module _ (t : Table) (m : List ℕ) (tenant id : ℕ) (z : firstOf (lookupRows t m tenant id) ≡ 0) where
   some-server : 0 < t .count
   unfolding lookupRows
-  some-server = omega (arith, eqb-false (t .count) 0 (ready-tests t m _ z .none))
+  some-server = omega (arith, eqb-false (t .count) 0 (asked-tests t m tenant id _ z .none))
 
   -- the server where the search ends is there and is opened
   pub ends-there : (lowest (searchFor t m id .met) < t .count) × (opens t m id (lowest (searchFor t m id .met)) ≡ true)
@@ -44,7 +44,7 @@ module _ (t : Table) (m : List ℕ) (id : ℕ) (z : firstOf (lookupRows t m id) 
   ends-there = go (searchFor t m id .met) refl
     where
       go : (o : Option Place) → searchFor t m id .met ≡ o → (lowest o < t .count) × (opens t m id (lowest o) ≡ true)
-      go none e = (some-server, rw (e, le-leb 0 0 (omega arith)) (zero-read t (lookup-accepted t m id z .isSound) some-server id))
+      go none e = (some-server, rw (e, le-leb 0 0 (omega arith)) (zero-read t (lookup-accepted t m tenant id z .isSound) some-server id))
       go (some p) e = let i = met-some t m id p e in (i .below, rw (e, le-leb (p .server) (p .server) (omega arith)) (i .isRead))
 
   pub opens-some : 0 < length (searchFor t m id .opened)

@@ -1,12 +1,11 @@
--- Lookup (document 01, "The calls" and its table of refusals): its rows of refusals in the order of the tests, and its reply.
+-- Lookup (document 01, "The calls" and its table of refusals; document 02, item 2): its rows of refusals in the order of the tests, and its reply.
 -- t is the table and m the medium as lent.
 use Prim.Native.Nat.{ℕ}
-use mathlib.Core.Bool.{cond}
+use mathlib.Core.Bool.{false, cond}
 use mathlib.Core.List.{List}
 use mathlib.Core.Option.{Option, none, some}
 use lib.ListN.{length}
-use lib.Dec.{leb, eqb}
-use Rattle.limits.specs.Limits.{contentRange}
+use lib.Dec.{eqb}
 use Rattle.lists.specs.Below.{nth}
 use Rattle.medium.specs.Word.{tagOf, contentOf}
 use Rattle.medium.specs.Entry.{valueAt}
@@ -14,11 +13,12 @@ use Rattle.table.specs.declared.Table.{Table}
 use Rattle.replies.specs.Refusal.{Row}
 use Rattle.replies.specs.declared.Reply.{Reply}
 use Rattle.replies.specs.Reply.{refused, found, replyBy}
-use Rattle.checks.specs.Ready.{readyRows}
+use Rattle.checks.specs.Ready.{askedRows}
 use Rattle.search.specs.Search.{Place, searchFor}
 
-unfoldable pub lookupRows : Table → List ℕ → ℕ → List Row
-lookupRows t m id = readyRows t m (leb contentRange id)
+-- the caller's tenant, then the id
+unfoldable pub lookupRows : Table → List ℕ → ℕ → ℕ → List Row
+lookupRows t m tenant id = askedRows t m tenant id false
 
 -- what the search says: 8 where it meets no entry, 10 where the value word that it found is of another tag
 unfoldable pub metReply : ℕ → List ℕ → ℕ → Option Place → Reply
@@ -27,7 +27,7 @@ metReply capacity m opened (some p) =
     let word = nth m (valueAt capacity (p .server) (p .entry)) in
     cond (eqb (tagOf word) 1) (found (contentOf word) opened) (refused 10 opened)
 
-unfoldable pub lookupReply : Table → List ℕ → ℕ → Reply
-lookupReply t m id =
+unfoldable pub lookupReply : Table → List ℕ → ℕ → ℕ → Reply
+lookupReply t m tenant id =
     let s = searchFor t m id in
-    replyBy (lookupRows t m id) (metReply (t .capacity) m (length (s .opened)) (s .met))
+    replyBy (lookupRows t m tenant id) (metReply (t .capacity) m (length (s .opened)) (s .met))

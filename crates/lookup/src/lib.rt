@@ -35,13 +35,19 @@ pub fn met(
     }
 }
 
-// Looks an id up on a table whose columns are borrowed.
-pub fn lookup_in<'a>(shape: Shape, columns: Columns<'a>, medium: &[u32], id: u32) -> LookupAnswer
+// Looks an id up for a tenant on a table whose columns are borrowed.
+pub fn lookup_in<'a>(
+    shape: Shape,
+    columns: Columns<'a>,
+    medium: &[u32],
+    tenant: u32,
+    id: u32,
+) -> LookupAnswer
     requires { ⌜ Whole columns ⌝ }
-    ensures { λ r. ⌜ replyOfLookup r ≡ lookupReply (tableOf shape (columns .entry)) (now (medium .entry)) id ⌝ }
+    ensures { λ r. ⌜ replyOfLookup r ≡ lookupReply (tableOf shape (columns .entry)) (now (medium .entry)) tenant id ⌝ }
 {
     let capacity = shape.capacity;
-    let check = checks::ready(shape, columns, medium, CONTENT_RANGE <= id);
+    let check = checks::asked(shape, columns, medium, tenant, id, false);
     if let Check::Refused(refusal) = check {
         return LookupAnswer::Refused(refusal, 0);
     }
@@ -52,9 +58,9 @@ pub fn lookup_in<'a>(shape: Shape, columns: Columns<'a>, medium: &[u32], id: u32
     }
 }
 
-// Looks an id up on a table by value.
-pub fn lookup(table: Table, medium: &[u32], id: u32) -> LookupAnswer
-    ensures { λ r. ⌜ replyOfLookup r ≡ lookupReply table (now (medium .entry)) id ⌝ }
+// Looks an id up for a tenant on a table by value.
+pub fn lookup(table: Table, medium: &[u32], tenant: u32, id: u32) -> LookupAnswer
+    ensures { λ r. ⌜ replyOfLookup r ≡ lookupReply table (now (medium .entry)) tenant id ⌝ }
 {
     let shape = Shape {
         capacity: table.capacity,
@@ -66,5 +72,5 @@ pub fn lookup(table: Table, medium: &[u32], id: u32) -> LookupAnswer
         &table.numerators,
         &table.denominators,
     ];
-    lookup_in(shape, columns, medium, id)
+    lookup_in(shape, columns, medium, tenant, id)
 }

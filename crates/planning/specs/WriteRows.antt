@@ -1,7 +1,7 @@
 -- Which server a write goes to, and its rows of refusals in the order of the tests (document 01, "The calls" and its table of
--- refusals). t is the table and m the medium as lent.
+-- refusals; document 02, item 2). t is the table and m the medium as lent.
 use Prim.Native.Nat.{ℕ}
-use mathlib.Core.Bool.{not, _||_}
+use mathlib.Core.Bool.{not}
 use mathlib.Core.List.{List, [], _∷_, _++_}
 use lib.Dec.{leb, eqb}
 use Rattle.limits.specs.Limits.{contentRange}
@@ -10,7 +10,7 @@ use Rattle.medium.specs.Entry.{entryWords, entryAt, blankRun}
 use Rattle.table.specs.declared.Table.{Table}
 use Rattle.table.specs.Parts.{entriesOf, weightOf, usedOf}
 use Rattle.replies.specs.Refusal.{Row, _when_}
-use Rattle.checks.specs.Ready.{readyRows}
+use Rattle.checks.specs.Ready.{askedRows}
 
 -- the server that a write goes to; its entry there is the server's used
 unfoldable pub target : Table → ℕ → ℕ
@@ -24,5 +24,6 @@ entryRows t m id =
     ∷ 7 when not (blankRun m (entryAt (t .capacity) k (usedOf t k)) entryWords)
     ∷ []
 
-unfoldable pub writeRows : Table → List ℕ → ℕ → ℕ → List Row
-writeRows t m id value = readyRows t m (leb contentRange id || leb contentRange value) ++ entryRows t m id
+-- the caller's tenant, the id, and the value
+unfoldable pub writeRows : Table → List ℕ → ℕ → ℕ → ℕ → List Row
+writeRows t m tenant id value = askedRows t m tenant id (leb contentRange value) ++ entryRows t m id

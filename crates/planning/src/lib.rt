@@ -1,4 +1,4 @@
-// The tests before a write, in the order of document 01's numbers, and the server that it goes to.
+// The tests before a write, in the order of its rows, and the server that it goes to.
 ghost use mathlib.Core.Path.{_≡_};
 ghost use Rattle.table.specs.Parts.{tableOf, Whole};
 ghost use Rattle.replies.specs.Refusal.{firstOf, settle};
@@ -21,19 +21,19 @@ pub fn plan_write<'a>(
     shape: Shape,
     columns: Columns<'a>,
     medium: &[u32],
+    tenant: u32,
     id: u32,
     value: u32,
 ) -> Plan
     requires { ⌜ Whole columns ⌝ }
-    ensures number { λ r. ⌜ planNumber r ≡ firstOf (writeRows (tableOf shape (columns .entry)) (now (medium .entry)) id value) ⌝ }
-    ensures server { λ r. ⌜ planServer r ≡ settle (writeRows (tableOf shape (columns .entry)) (now (medium .entry)) id value) (target (tableOf shape (columns .entry)) id) 0 ⌝ }
+    ensures number { λ r. ⌜ planNumber r ≡ firstOf (writeRows (tableOf shape (columns .entry)) (now (medium .entry)) tenant id value) ⌝ }
+    ensures server { λ r. ⌜ planServer r ≡ settle (writeRows (tableOf shape (columns .entry)) (now (medium .entry)) tenant id value) (target (tableOf shape (columns .entry)) id) 0 ⌝ }
 {
     let capacity = shape.capacity;
     let count = shape.count;
     let weights = columns[0];
     let used = columns[1];
-    let outside = (CONTENT_RANGE <= id) | (CONTENT_RANGE <= value);
-    let check = checks::ready(shape, columns, medium, outside);
+    let check = checks::asked(shape, columns, medium, tenant, id, CONTENT_RANGE <= value);
     if let Check::Refused(refusal) = check {
         return Plan::Refused(refusal);
     }

@@ -33,7 +33,7 @@ use Rattle.history.specs.Machine.{State, after, begin}
 use Rattle.history.specs.Ledger.{freshLedger, ledgerAfter}
 use Rattle.history.proofs.Unaltered.{after-append}
 use Rattle.history.proofs.Run.{begin-agrees, step, run}
-use Rattle.encoding.specs.Encoding.{callLength, numberOffset, subjectOffset, amountOffset, replyLength, roomFor, withReplyAt, withReply}
+use Rattle.encoding.specs.Encoding.{callLength, numberOffset, tenantOffset, subjectOffset, amountOffset, replyLength, roomFor, withReplyAt, withReply}
 use Rattle.dispatch.specs.ByNumber.{callOf, callAt, replyTo, nextBy}
 use Rattle.encoding.proofs.Storing.{Stored, length-withReply, stored-here, stored-below}
 use Rattle.call_words.specs.CallWords.{lent}
@@ -173,7 +173,7 @@ module _ (words m calls replies : List ℕ) (n : ℕ) (l : tableLength ≤ lengt
 
   pub one-to : (at : ℕ) (words₁ words₂ medium medium′ replies₁ replies₂ : List ℕ) (r : Reply)
       → ReplayedTo words m calls replies n at words₁ medium replies₁ → at < callLength * n
-      → let o = callOf (nth calls (at + numberOffset)) (nth calls (at + subjectOffset)) (nth calls (at + amountOffset)) in
+      → let o = callOf (nth calls (at + numberOffset)) (nth calls (at + tenantOffset)) (nth calls (at + subjectOffset)) (nth calls (at + amountOffset)) in
       r ≡ replyTo (lent words₁ medium) o
       → words₂ ≡ withTable words₁ (nextBy (lent words₁ medium) o .table)
       → medium′ ≡ nextBy (lent words₁ medium) o .medium

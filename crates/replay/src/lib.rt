@@ -13,6 +13,7 @@ use encoding::AMOUNT_OFFSET;
 use encoding::CALL_LENGTH;
 use encoding::NUMBER_OFFSET;
 use encoding::SUBJECT_OFFSET;
+use encoding::TENANT_OFFSET;
 use replies::Check;
 use table_words::TABLE_LENGTH;
 
@@ -32,6 +33,7 @@ fn run_calls(table: &mut [u32], calls: &[u32], medium: &mut [u32], replies: &mut
             table,
             medium,
             calls[at + NUMBER_OFFSET],
+            calls[at + TENANT_OFFSET],
             calls[at + SUBJECT_OFFSET],
             calls[at + AMOUNT_OFFSET],
         );

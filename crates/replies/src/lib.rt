@@ -19,11 +19,11 @@ pub const DELETE: u32 = 4;
 
 pub const LOOKUP: u32 = 5;
 
-// Why a call is refused: a case for each number of document 01's table, in its order from 1 to 10.
+// Why a call is refused: a case for each number, in their order from 1 to 11. 1 to 10 are document 01's, 11 is document 02's.
 pub enum Refusal {
     // 1, foreign table: the table is not sound.
     UnsoundTable,
-    // 2, out of range: the capacity, an id, a value or a weight is outside its range.
+    // 2, out of range: the capacity, a tenant, an id, a value or a weight is outside its range.
     OutOfRange,
     // 3, no such shelf: the server is at or above the count, or there is no server at all.
     NoSuchServer,
@@ -41,6 +41,8 @@ pub enum Refusal {
     ExceedsFree,
     // 10, damaged: the value word that a lookup found has another tag.
     Corrupt,
+    // 11, another club's ticket: the id is another tenant's than the caller's.
+    OtherTenant,
 }
 
 // What the tests before a call say, and the answer of start.

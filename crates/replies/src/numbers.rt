@@ -23,6 +23,7 @@ fn refusal_number(refusal: Refusal) -> u32
         Refusal::NotFound => 8,
         Refusal::ExceedsFree => 9,
         Refusal::Corrupt => 10,
+        Refusal::OtherTenant => 11,
     }
 }
 

@@ -7,6 +7,7 @@ use mathlib.Core.List.{List}
 use mathlib.Core.Option.{some}
 use lib.ListN.{length}
 use lib.Seq.{sets}
+use Rattle.tenants.specs.Tenant.{tenantOf}
 use Rattle.table.specs.declared.Table.{Table}
 use Rattle.replies.specs.declared.Reply.{Reply}
 use Rattle.history.specs.Machine.{State}
@@ -30,10 +31,10 @@ module _ (u : InUse) (m : List ℕ) (number subject amount : ℕ) where
   too-early e = rw e
 
   -- and after it, with what the call gives
-  pub call-run : u .started ≡ true → (r : Reply) (t : Table) (m′ : List ℕ)
-      → (let S : State = record { table = u .table; medium = m } in r ≡ replyTo S (callOf number subject amount))
-      → (let S : State = record { table = u .table; medium = m } in t ≡ nextBy S (callOf number subject amount) .table)
-      → (let S : State = record { table = u .table; medium = m } in m′ ≡ nextBy S (callOf number subject amount) .medium)
+  pub call-run : u .started ≡ true → (tenant : ℕ) → tenant ≡ tenantOf subject → (r : Reply) (t : Table) (m′ : List ℕ)
+      → (let S : State = record { table = u .table; medium = m } in r ≡ replyTo S (callOf number tenant subject amount))
+      → (let S : State = record { table = u .table; medium = m } in t ≡ nextBy S (callOf number tenant subject amount) .table)
+      → (let S : State = record { table = u .table; medium = m } in m′ ≡ nextBy S (callOf number tenant subject amount) .medium)
       → callRun (sheetOf u m) (sheetOf u m .table) number subject amount ≡ record { bytes = answered number r; sheet = record { table = some t; medium = m′ } }
   unfolding callRun sheetOf
-  call-run e r t m′ er et em = rw (e, er, et, em)
+  call-run e tenant o r t m′ er et em = rw (e, er, et, em, o)

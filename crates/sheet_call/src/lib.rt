@@ -41,10 +41,17 @@ fn count_in(used: &mut Column, number: u32, reply: Reply)
 }
 
 // Runs a call by its number on a table by value.
-fn run_by_value(table: Table, medium: &mut [u32], number: u32, subject: u32, amount: u32) -> Ran
-    ensures reply { λ r. ⌜ r .reply ≡ replyTo (record { table = table; medium = now (medium .entry) }) (callOf number subject amount) ⌝ }
-    ensures table { λ r. ⌜ r .table ≡ nextBy (record { table = table; medium = now (medium .entry) }) (callOf number subject amount) .table ⌝ }
-    ensures medium { λ _. ⌜ now (medium .exit) ≡ nextBy (record { table = table; medium = now (medium .entry) }) (callOf number subject amount) .medium ⌝ }
+fn run_by_value(
+    table: Table,
+    medium: &mut [u32],
+    number: u32,
+    tenant: u32,
+    subject: u32,
+    amount: u32,
+) -> Ran
+    ensures reply { λ r. ⌜ r .reply ≡ replyTo (record { table = table; medium = now (medium .entry) }) (callOf number tenant subject amount) ⌝ }
+    ensures table { λ r. ⌜ r .table ≡ nextBy (record { table = table; medium = now (medium .entry) }) (callOf number tenant subject amount) .table ⌝ }
+    ensures medium { λ _. ⌜ now (medium .exit) ≡ nextBy (record { table = table; medium = now (medium .entry) }) (callOf number tenant subject amount) .medium ⌝ }
 {
     if number < WRITE {
         return dispatch::run_change(table, medium, number, subject, amount);
@@ -59,13 +66,13 @@ fn run_by_value(table: Table, medium: &mut [u32], number: u32, subject: u32, amo
         &table.numerators,
         &table.denominators,
     ];
-    let reply = dispatch::run_in(shape, columns, medium, number, subject, amount);
+    let reply = dispatch::run_in(shape, columns, medium, number, tenant, subject, amount);
     let mut next = table;
     count_in(&mut next.used, number, reply);
     Ran { reply, table: next }
 }
 
-// Runs a call by its number; before the first accepted S it is not run.
+// Runs a call by its number for the id's own tenant; before the first accepted S it is not run.
 pub fn run_call(
     in_use: InUse,
     medium: &mut [u32],
@@ -84,7 +91,8 @@ pub fn run_call(
         return ask(in_use, out, at);
     }
     let table = in_use.table;
-    let ran = run_by_value(table, medium, number, subject, amount);
+    let tenant = tenants::tenant_of(subject);
+    let ran = run_by_value(table, medium, number, tenant, subject, amount);
     let next = printing::put_reply(out, at, number, ran.reply);
     let after = ran.table;
     AfterLine {

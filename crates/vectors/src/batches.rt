@@ -1,16 +1,16 @@
-// Batches of lookups. Five numbers are the ids, and the sixth is a position.
+// Batches of lookups. Five numbers are the ids, the sixth is a position and the seventh the caller's tenant.
 ghost use Prim.Native.Nat.{_<_};
 use batch_answer::Batch;
 use table::Table;
 
-// The refusal of a batch of 256 times id 2, or of one more.
+// The refusal of tenant 0's batch of 256 times id 2, or of one more.
 fn longest(table: Table, medium: &[u32], over: bool) -> u64 {
     let ids: [u32; 257] = [2; 257];
     if over {
-        let batch = batch::lookup_batch(table, medium, &ids);
+        let batch = batch::lookup_batch(table, medium, 0, &ids);
         return batch.refusal as u64;
     }
-    let batch = batch::lookup_batch(table, medium, &ids[..256]);
+    let batch = batch::lookup_batch(table, medium, 0, &ids[..256]);
     batch.refusal as u64
 }
 
@@ -37,7 +37,7 @@ pub fn show(table: Table, medium: &[u32], letter: u8, numbers: [u32; 8], text: &
         return;
     }
     let i = (numbers[5] % 256) as usize;
-    let batch = batch::lookup_batch(table, medium, &numbers[..5]);
+    let batch = batch::lookup_batch(table, medium, numbers[6], &numbers[..5]);
     if letter == b'3' {
         vectors_calls::print_three(text, batch.refusals[i], batch.values[i], batch.opened[i]);
     } else {

@@ -23,7 +23,15 @@ fn run_case(table: Table, medium: &mut [u32], letter: u8, numbers: [u32; 8], tex
         vectors_calls::show_draw(letter, numbers, text);
         return table;
     }
-    vectors_calls::run_call(table, medium, letter, numbers[0], numbers[1], text)
+    vectors_calls::run_call(
+        table,
+        medium,
+        letter,
+        numbers[0],
+        numbers[1],
+        numbers[2],
+        text,
+    )
 }
 
 fn blank() -> [u32; 768]

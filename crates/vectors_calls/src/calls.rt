@@ -42,30 +42,37 @@ fn reweight(table: Table, server: usize, weight: u32, text: &[u8]) -> Table {
     changed.table
 }
 
-fn write(table: Table, medium: &mut [u32], id: u32, value: u32, text: &[u8]) -> Table {
-    let written = writing::write(table, medium, id, value);
+fn write(table: Table, medium: &mut [u32], tenant: u32, id: u32, value: u32, text: &[u8]) -> Table {
+    let written = writing::write(table, medium, tenant, id, value);
     let answer = written.answer;
     print::reply(text, replies::write_reply(answer));
     written.table
 }
 
-fn write_and_forget(table: Table, medium: &mut [u32], id: u32, value: u32, text: &[u8]) -> Table {
-    write(table, medium, id, value, text);
+fn write_and_forget(
+    table: Table,
+    medium: &mut [u32],
+    tenant: u32,
+    id: u32,
+    value: u32,
+    text: &[u8],
+) -> Table {
+    write(table, medium, tenant, id, value, text);
     table
 }
 
-fn delete(table: Table, medium: &mut [u32], id: u32, text: &[u8]) -> Table {
+fn delete(table: Table, medium: &mut [u32], tenant: u32, id: u32, text: &[u8]) -> Table {
     print::reply(
         text,
-        replies::delete_reply(deletion::delete(table, medium, id)),
+        replies::delete_reply(deletion::delete(table, medium, tenant, id)),
     );
     table
 }
 
-fn lookup(table: Table, medium: &[u32], id: u32, text: &[u8]) {
+fn lookup(table: Table, medium: &[u32], tenant: u32, id: u32, text: &[u8]) {
     print::reply(
         text,
-        replies::lookup_reply(lookup::lookup(table, medium, id)),
+        replies::lookup_reply(lookup::lookup(table, medium, tenant, id)),
     );
 }
 
@@ -89,7 +96,8 @@ fn burn(table: Table, medium: &mut [u32], i: u32, word: u32) -> Table {
     table
 }
 
-// A adds servers and prints no reply, V shows a word; the others are the day sheet's letters.
+// A adds servers and prints no reply, V shows a word; the others are the day sheet's letters. The caller's tenant is the first
+// number of L.
 fn run_reading(table: Table, medium: &[u32], letter: u8, a: u32, b: u32, text: &[u8]) -> Table {
     match letter {
         b'S' => return start_anew(a, text),
@@ -97,25 +105,27 @@ fn run_reading(table: Table, medium: &[u32], letter: u8, a: u32, b: u32, text: &
         b'G' => return reweight(table, a as usize, b, text),
         b'A' => return add_servers(table, medium, a),
         b'V' => show_word(medium, a, text),
-        b'L' => lookup(table, medium, a, text),
+        b'L' => lookup(table, medium, a, b, text),
         _ => {}
     }
     table
 }
 
-// X is a write after which the older table is kept, P burns a word from outside; the others are the day sheet's letters.
+// X is a write after which the older table is kept, P burns a word from outside; the others are the day sheet's letters. The
+// caller's tenant is the first number of W, X and D.
 pub fn run_call(
     table: Table,
     medium: &mut [u32],
     letter: u8,
     a: u32,
     b: u32,
+    c: u32,
     text: &[u8],
 ) -> Table {
     match letter {
-        b'W' => write(table, medium, a, b, text),
-        b'X' => write_and_forget(table, medium, a, b, text),
-        b'D' => delete(table, medium, a, text),
+        b'W' => write(table, medium, a, b, c, text),
+        b'X' => write_and_forget(table, medium, a, b, c, text),
+        b'D' => delete(table, medium, a, b, text),
         b'P' => burn(table, medium, a, b),
         _ => run_reading(table, medium, letter, a, b, text),
     }

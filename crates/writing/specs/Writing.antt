@@ -27,11 +27,11 @@ writeBurns t m id value =
     ∷ record { address = entryAt (t .capacity) k (usedOf t k); word = idWord id }
     ∷ invalidations replaced (writeMarks t m id)
 
-unfoldable pub writeReply : Table → List ℕ → ℕ → ℕ → Reply
-writeReply t m id value = replyBy (writeRows t m id value) (onServer (target t id) (length (writeMarks t m id)))
+unfoldable pub writeReply : Table → List ℕ → ℕ → ℕ → ℕ → Reply
+writeReply t m tenant id value = replyBy (writeRows t m tenant id value) (onServer (target t id) (length (writeMarks t m id)))
 
-unfoldable pub writeTable : Table → List ℕ → ℕ → ℕ → Table
-writeTable t m id value = settle (writeRows t m id value) (withEntry t (target t id)) t
+unfoldable pub writeTable : Table → List ℕ → ℕ → ℕ → ℕ → Table
+writeTable t m tenant id value = settle (writeRows t m tenant id value) (withEntry t (target t id)) t
 
-unfoldable pub writeMedium : Table → List ℕ → ℕ → ℕ → List ℕ
-writeMedium t m id value = settle (writeRows t m id value) (burnAll m (writeBurns t m id value)) m
+unfoldable pub writeMedium : Table → List ℕ → ℕ → ℕ → ℕ → List ℕ
+writeMedium t m tenant id value = settle (writeRows t m tenant id value) (burnAll m (writeBurns t m id value)) m

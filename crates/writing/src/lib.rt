@@ -29,22 +29,23 @@ fn enter(medium: &mut [u32], at: usize, id: u32, value: u32)
     medium[at] = id;
 }
 
-// Writes on a table whose columns are borrowed: the value and the id go to the write server's next entry, then each earlier
+// Writes for a tenant on a table whose columns are borrowed: the value and the id go to the write server's next entry, then each earlier
 // live entry of the id on readable servers at or above it is invalidated. The caller counts the entry as used on the server
 // that is answered.
 pub fn write_in<'a>(
     shape: Shape,
     columns: Columns<'a>,
     medium: &mut [u32],
+    tenant: u32,
     id: u32,
     value: u32,
 ) -> WriteAnswer
     requires { ⌜ Whole columns ⌝ }
-    ensures reply { λ r. ⌜ replyOfWrite r ≡ writeReply (tableOf shape (columns .entry)) (now (medium .entry)) id value ⌝ }
-    ensures medium { λ _. ⌜ now (medium .exit) ≡ writeMedium (tableOf shape (columns .entry)) (now (medium .entry)) id value ⌝ }
+    ensures reply { λ r. ⌜ replyOfWrite r ≡ writeReply (tableOf shape (columns .entry)) (now (medium .entry)) tenant id value ⌝ }
+    ensures medium { λ _. ⌜ now (medium .exit) ≡ writeMedium (tableOf shape (columns .entry)) (now (medium .entry)) tenant id value ⌝ }
 {
     let capacity = shape.capacity;
-    let plan = planning::plan_write(shape, columns, medium, id, value);
+    let plan = planning::plan_write(shape, columns, medium, tenant, id, value);
     match plan {
         Plan::Refused(refusal) => WriteAnswer::Refused(refusal),
         Plan::To(server) => {
@@ -58,11 +59,11 @@ pub fn write_in<'a>(
     }
 }
 
-// Writes on a table by value.
-pub fn write(table: Table, medium: &mut [u32], id: u32, value: u32) -> Written
-    ensures reply { λ r. ⌜ replyOfWrite (r .answer) ≡ writeReply table (now (medium .entry)) id value ⌝ }
-    ensures table { λ r. ⌜ r .table ≡ writeTable table (now (medium .entry)) id value ⌝ }
-    ensures medium { λ _. ⌜ now (medium .exit) ≡ writeMedium table (now (medium .entry)) id value ⌝ }
+// Writes for a tenant on a table by value.
+pub fn write(table: Table, medium: &mut [u32], tenant: u32, id: u32, value: u32) -> Written
+    ensures reply { λ r. ⌜ replyOfWrite (r .answer) ≡ writeReply table (now (medium .entry)) tenant id value ⌝ }
+    ensures table { λ r. ⌜ r .table ≡ writeTable table (now (medium .entry)) tenant id value ⌝ }
+    ensures medium { λ _. ⌜ now (medium .exit) ≡ writeMedium table (now (medium .entry)) tenant id value ⌝ }
 {
     let shape = Shape {
         capacity: table.capacity,
@@ -74,7 +75,7 @@ pub fn write(table: Table, medium: &mut [u32], id: u32, value: u32) -> Written
         &table.numerators,
         &table.denominators,
     ];
-    let answer = write_in(shape, columns, medium, id, value);
+    let answer = write_in(shape, columns, medium, tenant, id, value);
     match answer {
         WriteAnswer::Refused(_) => Written { answer, table },
         WriteAnswer::Written(server, _) => {

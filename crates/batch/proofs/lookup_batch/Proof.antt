@@ -19,13 +19,13 @@ use Rattle.batch.proofs.lookup_batch.Statement.{statement}
 use Rattle.batch.proofs.lookup_batch.Tie as tie
 
 abbrev Inv-loop : tie.InvT-loop
-Inv-loop medium ids table n number servers parts₀ mounts₀ k₀ parts mounts k = BatchFrom table medium ids k parts mounts
+Inv-loop medium tenant ids table n number servers parts₀ mounts₀ k₀ parts mounts k = BatchFrom table medium tenant ids k parts mounts
 
 abbrev μ-loop : tie.MeasureT-loop
-μ-loop medium ids table n number servers parts₀ mounts₀ k₀ parts mounts k = k
+μ-loop medium tenant ids table n number servers parts₀ mounts₀ k₀ parts mounts k = k
 
 -- the start, from the place where the columns are lent and from where the number of servers is known
-abbrev B : tie.After-t222 Inv-loop μ-loop → tie.Start Inv-loop μ-loop
+abbrev B : tie.After-t232 Inv-loop μ-loop → tie.Start Inv-loop μ-loop
 B c = c .before .before .before .before .before .before .before .before .before .before .before
 
 abbrev J : tie.Joined2 Inv-loop μ-loop → tie.Start Inv-loop μ-loop
@@ -34,12 +34,15 @@ J j = B (j .before .before .before .before)
 abbrev S : tie.At-loop Inv-loop μ-loop → tie.Start Inv-loop μ-loop
 S l = J (l .before .before)
 
--- table, medium and ids
+-- table, medium, the caller's tenant and ids
 abbrev T : tie.Start Inv-loop μ-loop → Table
 T s = s .args .t1
 
 abbrev M : tie.Start Inv-loop μ-loop → List ℕ
 M s = s .args .medium .now
+
+abbrev C : tie.Start Inv-loop μ-loop → ℕ
+C s = s .args .tenant
 
 abbrev I : tie.Start Inv-loop μ-loop → List ℕ
 I s = s .args .ids .now
@@ -50,7 +53,7 @@ refuse-list-requires c κs = search needs
 returns : tie.Need-returns Inv-loop μ-loop
 returns c =
     let s = B (c .before .before) in
-    c .refuse-list .ensures ∙ batch-refused (T s) (M s) (I s) (omega (arith, c .before .if1 .taken))
+    c .refuse-list .ensures ∙ batch-refused (T s) (M s) (C s) (I s) (omega (arith, c .before .if1 .taken))
 
 ready-requires : tie.Need-ready-requires Inv-loop μ-loop
 ready-requires c κs = search needs
@@ -65,12 +68,12 @@ few : (j : tie.Joined2 Inv-loop μ-loop) → length (I (J j)) ≤ 256
 few j = let e = j .before .before .before in omega (arith, e .if1 .left)
 
 -- what the tests say of an id in range, and how many servers the loop goes through
-number-here : (j : tie.Joined2 Inv-loop μ-loop) → j .before .check-number .result ≡ firstOf (readyRows (T (J j)) (M (J j)) false)
+number-here : (j : tie.Joined2 Inv-loop μ-loop) → j .before .check-number .result ≡ firstOf (readyRows (T (J j)) (M (J j)) false false)
 number-here j = j .before .check-number .ensures ∙ j .before .before .ready .ensures
 
-servers-here : (j : tie.Joined2 Inv-loop μ-loop) → j .if2 .servers ≡ servers (T (J j)) (M (J j)) (I (J j))
+servers-here : (j : tie.Joined2 Inv-loop μ-loop) → j .if2 .servers ≡ servers (T (J j)) (M (J j)) (C (J j)) (I (J j))
 servers-here j =
-    let rows = readyRows (T (J j)) (M (J j)) false in
+    let rows = readyRows (T (J j)) (M (J j)) false false in
     let count = T (J j) .count in
     ⊎-elim
     (λ w. w .1 ∙ sym (settle-yes rows count 0 (sym (number-here j) ∙ w .0 .taken)))
@@ -81,13 +84,13 @@ loop-holds : tie.Need-loop-holds Inv-loop μ-loop
 loop-holds c =
     let j = c .before in
     let s = J j in
-    batch-start (T s) (M s) (I s) (few j) (j .before .check-number .result) (j .if2 .servers) (number-here j) (servers-here j) (c .begin .result) (c .begin .ensures)
+    batch-start (T s) (M s) (C s) (I s) (few j) (j .before .check-number .result) (j .if2 .servers) (number-here j) (servers-here j) (c .begin .result) (c .begin .ensures)
 
 -- the loop's body: the server is there, and the batch is as the laws take it
 here : (c : tie.In-loop Inv-loop μ-loop) → let s = S (c .before) in (c .before .loop .k - 1 < T s .count) × Ready (T s) (M s)
-here c = let l = c .before in let s = S l in ready-there (T s) (M s) (I s) (l .loop .k - 1) (omega (arith, l .loop .inv .below))
+here c = let l = c .before in let s = S l in ready-there (T s) (M s) (C s) (I s) (l .loop .k - 1) (omega (arith, l .loop .inv .below))
 
-from : (c : tie.In-loop Inv-loop μ-loop) → let l = c .before in BatchFrom (T (S l)) (M (S l)) (I (S l)) (suc (l .loop .k - 1)) (l .loop .parts) (l .loop .mounts)
+from : (c : tie.In-loop Inv-loop μ-loop) → let l = c .before in BatchFrom (T (S l)) (M (S l)) (C (S l)) (I (S l)) (suc (l .loop .k - 1)) (l .loop .parts) (l .loop .mounts)
 from c = let l = c .before in let e : l .loop .k ≡ suc (l .loop .k - 1) = omega arith in rw e at (l .loop .inv)
 
 low : (c : tie.In-loop Inv-loop μ-loop) → c .before .loop .k ≤ 256
@@ -123,7 +126,7 @@ step-all-requires c κs =
       each-inside (T s .capacity) (T s .count) (l .loop .k - 1) (nth (T s .used)) (M s) (h .1 .inside) (h .0),
       (
         h .1 .inside .fits (l .loop .k - 1) (h .0),
-        (l .loop .inv .done .few, opened-few (T s) (M s) (I s) (l .loop .k) (l .loop .parts) (l .loop .inv .done) (h .1 .inside .few)),
+        (l .loop .inv .done .few, opened-few (T s) (M s) (C s) (I s) (l .loop .k) (l .loop .parts) (l .loop .inv .done) (h .1 .inside .few)),
       ),
     )
 
@@ -147,7 +150,7 @@ add-mounts : tie.Need-add-mounts Inv-loop μ-loop
 add-mounts c =
     let w = W (c .before) in
     let l = w .before in
-    omega (arith, mounted-few (T (S l)) (M (S l)) (I (S l)) (l .loop .k) (l .loop .parts) (l .loop .mounts) (l .loop .inv), here w .1 .inside .few)
+    omega (arith, mounted-few (T (S l)) (M (S l)) (C (S l)) (I (S l)) (l .loop .k) (l .loop .parts) (l .loop .mounts) (l .loop .inv), here w .1 .inside .few)
 
 loop-less : tie.Need-loop-less Inv-loop μ-loop
 loop-less c = search needs
@@ -157,7 +160,7 @@ loop-again c =
     let w = W (c .before) in
     let l = w .before in
     let s = S l in
-    batch-opened (T s) (M s) (I s) (l .loop .k - 1) (l .loop .parts) (l .loop .mounts) (from w)
+    batch-opened (T s) (M s) (C s) (I s) (l .loop .k - 1) (l .loop .parts) (l .loop .mounts) (from w)
     (c .before .before .before .before .step-all .result) (c .before .before .before .before .step-all .ensures)
     (l .loop .k - 1 + 1) (omega arith) (c .before .has .ensures) (c .if3 .taken)
 
@@ -169,12 +172,12 @@ loop-again-2 c =
     let w = W (c .before) in
     let l = w .before in
     let s = S l in
-    batch-closed (T s) (M s) (I s) (l .loop .k - 1) (l .loop .parts) (l .loop .mounts) (from w)
+    batch-closed (T s) (M s) (C s) (I s) (l .loop .k - 1) (l .loop .parts) (l .loop .mounts) (from w)
     (c .before .before .before .before .step-all .result) (c .before .before .before .before .step-all .ensures)
     (l .loop .k - 1 + 1) (omega arith) (c .before .has .ensures) (c .if3 .left)
 
 -- after the loop no server is left
-all : (a : tie.After-loop Inv-loop μ-loop) → let l = a .before in BatchFrom (T (S l)) (M (S l)) (I (S l)) 0 (l .loop .parts) (l .loop .mounts)
+all : (a : tie.After-loop Inv-loop μ-loop) → let l = a .before in BatchFrom (T (S l)) (M (S l)) (C (S l)) (I (S l)) 0 (l .loop .parts) (l .loop .mounts)
 all a = let l = a .before in let e : l .loop .k ≡ 0 = omega arith in rw e at (l .loop .inv)
 
 order-requires : tie.Need-order-requires Inv-loop μ-loop
@@ -182,7 +185,7 @@ order-requires c κs =
     let a = c .before .before .before .before .before in
     let l = a .before in
     let s = S l in
-    let g = ends-given (T s) (M s) (I s) (l .loop .parts) (l .loop .mounts) (all a) (l .before .before .if2 .servers) (servers-here (l .before .before)) in
+    let g = ends-given (T s) (M s) (C s) (I s) (l .loop .parts) (l .loop .mounts) (all a) (l .before .before .if2 .servers) (servers-here (l .before .before)) in
     (few (l .before .before), (g .0, g .1))
 
 returns-2 : tie.Need-returns-2 Inv-loop μ-loop
@@ -190,7 +193,7 @@ returns-2 c =
     let a = c .before .before .before .before .before .before in
     let l = a .before in
     let s = S l in
-    batch-done (T s) (M s) (I s) (l .loop .parts) (l .loop .mounts) (all a) (l .before .before .if2 .servers) (servers-here (l .before .before)) (c .order .result) (c .order .ensures)
+    batch-done (T s) (M s) (C s) (I s) (l .loop .parts) (l .loop .mounts) (all a) (l .before .before .if2 .servers) (servers-here (l .before .before)) (c .order .result) (c .order .ensures)
 
 pub lookup-batch-spec : {M : Type 1} → statement M
 lookup-batch-spec =

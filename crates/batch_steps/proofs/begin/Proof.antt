@@ -14,22 +14,22 @@ use Rattle.batch_steps.proofs.begin.Statement.{statement}
 use Rattle.batch_steps.proofs.begin.Tie as tie
 
 -- one refusal more
-stored : (number : ℕ) (ids : List ℕ) (n : ℕ) (parts : Parts) (refusal : ℕ) → parts ≡ firstParts number ids n → refusal ≡ firstRefusal number (nth ids n)
+stored : (number tenant : ℕ) (ids : List ℕ) (n : ℕ) (parts : Parts) (refusal : ℕ) → parts ≡ firstParts number tenant ids n → refusal ≡ firstRefusal number tenant (nth ids n)
     → record {
       refusals = set (parts .refusals) n refusal;
       values = parts .values;
       opened = parts .opened;
       ends = parts .ends;
     }
-    ≡ firstParts number ids (n + 1)
+    ≡ firstParts number tenant ids (n + 1)
 unfolding firstParts filled
-stored number ids n parts refusal e d = rw (e, setBelow-more (λ i. firstRefusal number (nth ids i)) n (replicate 256 0) _ refusal refl d)
+stored number tenant ids n parts refusal e d = rw (e, setBelow-more (λ i. firstRefusal number tenant (nth ids i)) n (replicate 256 0) _ refusal refl d)
 
 abbrev Inv-loop : tie.InvT-loop
-Inv-loop ids number parts₀ i₀ parts i = (i ≤ length ids) × (parts ≡ firstParts number ids i)
+Inv-loop number tenant ids parts₀ i₀ parts i = (i ≤ length ids) × (parts ≡ firstParts number tenant ids i)
 
 abbrev μ-loop : tie.MeasureT-loop
-μ-loop ids number parts₀ i₀ parts i = length ids - i
+μ-loop number tenant ids parts₀ i₀ parts i = length ids - i
 
 loop-holds : tie.Need-loop-holds Inv-loop μ-loop
 unfolding firstParts filled setBelow
@@ -60,7 +60,7 @@ loop-again : tie.Need-loop-again Inv-loop μ-loop
 loop-again c =
     let l = c .before .before .before in
     let a = l .before .before .args in
-    (search needs, stored (a .number) (a .ids .now) (l .loop .i) (l .loop .parts) _ (l .loop .inv .1) (c .first-refusal .ensures))
+    (search needs, stored (a .number) (a .tenant) (a .ids .now) (l .loop .i) (l .loop .parts) _ (l .loop .inv .1) (c .first-refusal .ensures))
 
 returns : tie.Need-returns Inv-loop μ-loop
 returns c =

@@ -1,5 +1,9 @@
 -- `batch_steps::first_refusal` meets its contract: a case for each of the definition's tests.
-use borrow.Author.Tests.{eq-eqb, ne-eqb, le-leb, lt-leb}
+use mathlib.Core.Path.{_≡_, sym, _∙_}
+use mathlib.Core.Bool.{true, false}
+use borrow.Author.Needs.{needs}
+use borrow.Author.Tests.{eq-eqb, ne-eqb}
+use Rattle.tenants.specs.Tenant.{outOfRange, ofAnother}
 use Rattle.batch_steps.specs.Steps.{absentSoFar, firstRefusal}
 use Rattle.batch_steps.proofs.first_refusal.Statement.{statement}
 use Rattle.batch_steps.proofs.first_refusal.Tie as tie
@@ -8,21 +12,50 @@ returns : tie.Need-returns
 unfolding firstRefusal
 returns c = rw (eq-eqb _ 1 (c .if1 .taken))
 
+out-of-range-requires : tie.Need-out-of-range-requires
+out-of-range-requires c κs = search needs
+
 returns-2 : tie.Need-returns-2
 unfolding firstRefusal
-returns-2 c = rw (ne-eqb _ 1 (c .before .if1 .left), le-leb _ _ (c .if2 .taken))
+returns-2 c = let o = c .before in rw (ne-eqb _ 1 (o .before .if1 .left), sym (o .out-of-range .ensures) ∙ c .if2 .taken)
+
+of-another-requires : tie.Need-of-another-requires
+of-another-requires c κs = search needs
 
 returns-3 : tie.Need-returns-3
-unfolding firstRefusal absentSoFar
+unfolding firstRefusal
 returns-3 c =
-    let e = c .before in
-    rw (ne-eqb _ 1 (e .before .if1 .left), lt-leb _ _ (e .if2 .left), eq-eqb _ 0 (c .if3 .taken))
+    let a = c .before in
+    let e = a .before in
+    let o = e .before in
+    rw (ne-eqb _ 1 (o .before .if1 .left), sym (o .out-of-range .ensures) ∙ e .if2 .left, sym (a .of-another .ensures) ∙ c .if3 .taken)
 
 returns-4 : tie.Need-returns-4
 unfolding firstRefusal absentSoFar
 returns-4 c =
-    let e = c .before in
-    rw (ne-eqb _ 1 (e .before .if1 .left), lt-leb _ _ (e .if2 .left), ne-eqb _ 0 (c .if3 .left))
+    let b = c .before in
+    let a = b .before in
+    let e = a .before in
+    let o = e .before in
+    rw (ne-eqb _ 1 (o .before .if1 .left), sym (o .out-of-range .ensures) ∙ e .if2 .left, sym (a .of-another .ensures) ∙ b .if3 .left, eq-eqb _ 0 (c .if4 .taken))
+
+returns-5 : tie.Need-returns-5
+unfolding firstRefusal absentSoFar
+returns-5 c =
+    let b = c .before in
+    let a = b .before in
+    let e = a .before in
+    let o = e .before in
+    rw (ne-eqb _ 1 (o .before .if1 .left), sym (o .out-of-range .ensures) ∙ e .if2 .left, sym (a .of-another .ensures) ∙ b .if3 .left, ne-eqb _ 0 (c .if4 .left))
 
 pub first-refusal-spec : {M : Type 1} → statement M
-first-refusal-spec = tie.close (tie.spec returns returns-2 returns-3 returns-4)
+first-refusal-spec =
+    tie.close
+    (tie.spec
+    returns
+    out-of-range-requires
+    returns-2
+    of-another-requires
+    returns-3
+    returns-4
+    returns-5)

@@ -32,8 +32,8 @@ long-here c =
     long-runs (length (a .ids .now)) (a .table .now) (a .replies .now) (a .order .now) (a .mounts .now) (sym (c .before .fits2 .ensures) ∙ not-false _ (c .if1 .left))
 
 -- the answer to the list
-answer : (c : tie.After-lookup-batch) → let a = S (F c) .args in c .lookup-batch .result ≡ batchReply (tableFrom (a .table .now)) (a .medium .now) (a .ids .now)
-answer c = let a = S (F c) .args in c .lookup-batch .ensures ∙ ap (λ (t : Table). batchReply t (a .medium .now) (a .ids .now)) (c .before .table-from .ensures .0)
+answer : (c : tie.After-lookup-batch) → let a = S (F c) .args in c .lookup-batch .result ≡ batchReply (tableFrom (a .table .now)) (a .medium .now) (a .tenant) (a .ids .now)
+answer c = let a = S (F c) .args in c .lookup-batch .ensures ∙ ap (λ (t : Table). batchReply t (a .medium .now) (a .tenant) (a .ids .now)) (c .before .table-from .ensures .0)
 
 fits-requires : tie.Need-fits-requires
 fits-requires c κs = search needs
@@ -51,7 +51,7 @@ returns : tie.Need-returns
 returns c =
     let f = c .before in
     let a = S f .args in
-    batch-short (a .table .now) (a .medium .now) (a .ids .now) (a .replies .now) (a .order .now) (a .mounts .now) _ (f .fits2 .ensures) (not-true _ (c .if1 .taken))
+    batch-short (a .table .now) (a .medium .now) (a .tenant) (a .ids .now) (a .replies .now) (a .order .now) (a .mounts .now) _ (f .fits2 .ensures) (not-true _ (c .if1 .taken))
 
 table-from-requires : tie.Need-table-from-requires
 table-from-requires c κs = long-here c .hasTable
@@ -73,7 +73,7 @@ returns-2 c =
     let b = c .before in
     let f = F b in
     let a = S f .args in
-    batch-refused (a .table .now) (a .medium .now) (a .ids .now) (a .replies .now) (a .order .now) (a .mounts .now) _ (f .fits2 .ensures) (not-false _ (b .before .before .if1 .left)) _ (answer b) (c .if2 .taken)
+    batch-refused (a .table .now) (a .medium .now) (a .tenant) (a .ids .now) (a .replies .now) (a .order .now) (a .mounts .now) _ (f .fits2 .ensures) (not-false _ (b .before .before .if1 .left)) _ (answer b) (c .if2 .taken)
 
 -- the list is not refused
 accepted : (c : tie.After-store-replies-arg) → B c .lookup-batch .result .refusal ≡ 0
@@ -83,8 +83,8 @@ store-replies-requires : tie.Need-store-replies-requires
 store-replies-requires c κs =
     let b = B c in
     let a = S (F b) .args in (
-      few-ids (tableFrom (a .table .now)) (a .medium .now) (a .ids .now) _ (answer b) (accepted c),
-      (long-here (b .before .before) .hasReplies, opened-small (tableFrom (a .table .now)) (a .medium .now) (a .ids .now) _ (answer b) (accepted c)),
+      few-ids (tableFrom (a .table .now)) (a .medium .now) (a .tenant) (a .ids .now) _ (answer b) (accepted c),
+      (long-here (b .before .before) .hasReplies, opened-small (tableFrom (a .table .now)) (a .medium .now) (a .tenant) (a .ids .now) _ (answer b) (accepted c)),
     )
 
 store-front-requires : tie.Need-store-front-requires
@@ -92,8 +92,8 @@ store-front-requires c κs =
     let q = R c .before in
     let b = B q in
     let a = S (F b) .args in (
-      length-order (tableFrom (a .table .now)) (a .medium .now) (a .ids .now) _ (answer b) (accepted q),
-      (few-ids (tableFrom (a .table .now)) (a .medium .now) (a .ids .now) _ (answer b) (accepted q), long-here (b .before .before) .hasOrder),
+      length-order (tableFrom (a .table .now)) (a .medium .now) (a .tenant) (a .ids .now) _ (answer b) (accepted q),
+      (few-ids (tableFrom (a .table .now)) (a .medium .now) (a .tenant) (a .ids .now) _ (answer b) (accepted q), long-here (b .before .before) .hasOrder),
     )
 
 -- the number of servers opened
@@ -101,7 +101,7 @@ small : (c : tie.After-store-replies-arg) → B c .lookup-batch .result .mounts 
 small c =
     let b = B c in
     let a = S (F b) .args in
-    mounts-small (tableFrom (a .table .now)) (a .medium .now) (a .ids .now) _ (answer b) (accepted c) (omega (arith, b .before .table-from .ensures .1, ap (λ (t : Table). t .count) (b .before .table-from .ensures .0)))
+    mounts-small (tableFrom (a .table .now)) (a .medium .now) (a .tenant) (a .ids .now) _ (answer b) (accepted c) (omega (arith, b .before .table-from .ensures .1, ap (λ (t : Table). t .count) (b .before .table-from .ensures .0)))
 
 cast-mounts : tie.Need-cast-mounts
 cast-mounts c = omega (arith, small (R (c .before .before .before) .before))
@@ -125,7 +125,7 @@ returns-3 c =
     let q = r .before in
     let b = B q in
     let a = S (F b) .args in
-    batch-done (a .table .now) (a .medium .now) (a .ids .now) (a .replies .now) (a .order .now) (a .mounts .now) _ (F b .fits2 .ensures) (not-false _ (b .before .before .if1 .left)) _ (answer b) (accepted q)
+    batch-done (a .table .now) (a .medium .now) (a .tenant) (a .ids .now) (a .replies .now) (a .order .now) (a .mounts .now) _ (F b .fits2 .ensures) (not-false _ (b .before .before .if1 .left)) _ (answer b) (accepted q)
     _ _ _ (r .store-replies .ensures) (f .store-front .ensures) refl
 
 pub lookup-batch-spec : {M : Type 1} → statement M

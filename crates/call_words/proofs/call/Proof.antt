@@ -11,7 +11,7 @@ abbrev S : tie.Else3 → tie.Start
 S c = c .before .before .before .before .before .before .before
 
 abbrev E : tie.After-run → tie.Else3
-E c = c .before .before .before .before .before .before
+E c = c .before .before .before .before .before .before .before
 
 returns : tie.Need-returns
 returns c = let a = c .before .before .before .before .before .args in table-short (a .table .now) (a .medium .now) (a .call .now) (a .reply .now) (c .if1 .taken)
@@ -34,6 +34,9 @@ shared-slice-read-run-2 c = search needs
 
 shared-slice-read-run-3 : tie.Need-shared-slice-read-run-3
 shared-slice-read-run-3 c = search needs
+
+shared-slice-read-run-4 : tie.Need-shared-slice-read-run-4
+shared-slice-read-run-4 c = search needs
 
 run-requires : tie.Need-run-requires
 run-requires c κs = search needs
@@ -72,6 +75,7 @@ call-spec =
     shared-slice-read-run
     shared-slice-read-run-2
     shared-slice-read-run-3
+    shared-slice-read-run-4
     run-requires
     store-requires
     same-length

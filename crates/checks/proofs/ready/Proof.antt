@@ -39,26 +39,35 @@ returns-2 c = rw (is-sound (c .before), c .if2 .taken)
 returns-3 : tie.Need-returns-3
 unfolding checkNumber numberOf readyRows firstOf
 returns-3 c =
-    let none : eqb (T (c .before .before .before) .count) 0 ≡ true = eq-eqb _ _ (c .if3 .taken) in
-    rw (is-sound (c .before .before), c .before .if2 .left, none)
+    let another : c .before .before .before .before .before .args .other ≡ true = c .if3 .taken in
+    rw (is-sound (c .before .before), c .before .if2 .left, another)
+
+returns-4 : tie.Need-returns-4
+unfolding checkNumber numberOf readyRows firstOf
+returns-4 c =
+    let o = c .before in
+    let none : eqb (T (o .before .before .before) .count) 0 ≡ true = eq-eqb _ _ (c .if4 .taken) in
+    rw (is-sound (o .before .before), o .before .if2 .left, o .if3 .left, none)
 
 cast-server-at : tie.Need-cast-server-at
 cast-server-at c = search needs
 
 server-at-requires : tie.Need-server-at-requires
-server-at-requires c κs = let s = sound-facts (T (c .before .before .before)) (is-sound (c .before .before)) in omega arith
-
-returns-4 : tie.Need-returns-4
-unfolding checkNumber numberOf readyRows firstOf short
-returns-4 c =
-    let e = c .before .before in
-    rw (is-sound (e .before .before), e .before .if2 .left, ne-eqb _ _ (e .if3 .left), ← c .before .server-at .ensures, lt-ltb _ _ (c .if4 .taken))
+server-at-requires c κs = let s = sound-facts (T (c .before .before .before .before)) (is-sound (c .before .before .before)) in omega arith
 
 returns-5 : tie.Need-returns-5
-unfolding checkNumber readyRows firstOf short
+unfolding checkNumber numberOf readyRows firstOf short
 returns-5 c =
     let e = c .before .before in
-    rw (is-sound (e .before .before), e .before .if2 .left, ne-eqb _ _ (e .if3 .left), ← c .before .server-at .ensures, le-ltb _ _ (c .if4 .left))
+    let o = e .before in
+    rw (is-sound (o .before .before), o .before .if2 .left, o .if3 .left, ne-eqb _ _ (e .if4 .left), ← c .before .server-at .ensures, lt-ltb _ _ (c .if5 .taken))
+
+returns-6 : tie.Need-returns-6
+unfolding checkNumber readyRows firstOf short
+returns-6 c =
+    let e = c .before .before in
+    let o = e .before in
+    rw (is-sound (o .before .before), o .before .if2 .left, o .if3 .left, ne-eqb _ _ (e .if4 .left), ← c .before .server-at .ensures, le-ltb _ _ (c .if5 .left))
 
 pub ready-spec : {M : Type 1} → statement M
 ready-spec =
@@ -68,7 +77,8 @@ ready-spec =
     returns
     returns-2
     returns-3
+    returns-4
     cast-server-at
     server-at-requires
-    returns-4
-    returns-5)
+    returns-5
+    returns-6)

@@ -2,59 +2,58 @@
 use mathlib.Core.Path.{_≡_}
 use mathlib.Core.List.{List}
 use Prim.Native.Nat.{ℕ}
-use lib.Dec.{leb}
+use mathlib.Core.Bool.{false}
 use borrow.Author.Needs.{needs}
-use Rattle.limits.specs.Limits.{contentRange}
 use Rattle.table.specs.declared.Table.{Table}
 use Rattle.table.specs.Parts.{tableOf}
 use Rattle.replies.specs.Refusal.{Row, firstOf}
 use Rattle.replies.specs.Reply.{numberOf, replyOfDelete}
 use Rattle.replies.proofs.Answers.{check-refused, check-accepted}
-use Rattle.checks.specs.Ready.{readyRows}
-use Rattle.checks.proofs.Passed.{ready-accepted}
+use Rattle.checks.specs.Ready.{askedRows}
+use Rattle.checks.proofs.Passed.{asked-ready}
 use Rattle.deletion.specs.Deletion.{deleteMarks}
 use Rattle.deletion.proofs.Done.{delete-refused, deleted-none, deleted-done}
 use Rattle.deletion.proofs.delete_in.Statement.{statement}
 use Rattle.deletion.proofs.delete_in.Tie as tie
 
-ready-requires : tie.Need-ready-requires
-ready-requires c κs = search needs
+asked-requires : tie.Need-asked-requires
+asked-requires c κs = search needs
 
 enum-known-check : tie.Need-enum-known-check
 enum-known-check c = search needs
 
 -- the call's arguments
-abbrev S : tie.After-ready → tie.Start
+abbrev S : tie.After-asked → tie.Start
 S c = c .before .before .before
 
-abbrev T : tie.After-ready → Table
+abbrev T : tie.After-asked → Table
 T c = let a = S c .args in tableOf (a .shape) (a .columns)
 
-abbrev M : tie.After-ready → List ℕ
+abbrev M : tie.After-asked → List ℕ
 M c = S c .args .medium .now
 
 -- the rows that the tests stand for
-abbrev rows : tie.After-ready → List Row
-rows c = readyRows (T c) (M c) (leb contentRange (S c .args .id))
+abbrev rows : tie.After-asked → List Row
+rows c = askedRows (T c) (M c) (S c .args .tenant) (S c .args .id) false
 
 refused-here : (c : tie.After-check) → numberOf (c .check .given .0 .0) ≡ firstOf (rows (c .before .before))
-refused-here c = check-refused (rows (c .before .before)) (c .before .before .ready .ensures) (c .check .given .1)
+refused-here c = check-refused (rows (c .before .before)) (c .before .before .asked .ensures) (c .check .given .1)
 
 accepted-here : (c : tie.After-enum-told) → firstOf (rows (c .before .before)) ≡ 0
-accepted-here c = check-accepted (rows (c .before .before)) (c .before .before .ready .ensures) (c .enum-told .given .1)
+accepted-here c = check-accepted (rows (c .before .before)) (c .before .before .asked .ensures) (c .enum-told .given .1)
 
 same-length : tie.Need-same-length
 same-length c = search needs
 
 returns : tie.Need-returns
 unfolding replyOfDelete
-returns c = let r = c .before .before .before in delete-refused (T r) (M r) (S r .args .id) _ (refused-here (c .before))
+returns c = let r = c .before .before .before in delete-refused (T r) (M r) (S r .args .tenant) (S r .args .id) _ (refused-here (c .before))
 
 enum-told : tie.Need-enum-told
 enum-told c = search needs
 
 invalidate-requires : tie.Need-invalidate-requires
-invalidate-requires c κs = (S (c .before .before .before) .pre, (ready-accepted _ _ _ (accepted-here (c .before)) .inside, search needs))
+invalidate-requires c κs = (S (c .before .before .before) .pre, (asked-ready _ _ _ _ _ (accepted-here (c .before)) .inside, search needs))
 
 -- where the tests were accepted
 abbrev E : tie.After-invalidate → tie.After-enum-told
@@ -69,7 +68,7 @@ returns-2 c =
     let i = c .before .before .before in
     let e = E i in
     let r = e .before .before in
-    deleted-none (T r) (M r) (S r .args .id) (accepted-here e) _ _ (i .invalidate .ensures .0) (i .invalidate .ensures .1) (c .if1 .taken)
+    deleted-none (T r) (M r) (S r .args .tenant) (S r .args .id) (accepted-here e) _ _ (i .invalidate .ensures .0) (i .invalidate .ensures .1) (c .if1 .taken)
 
 same-length-3 : tie.Need-same-length-3
 same-length-3 c = search needs
@@ -80,13 +79,13 @@ returns-3 c =
     let i = c .before .before .before in
     let e = E i in
     let r = e .before .before in
-    deleted-done (T r) (M r) (S r .args .id) (accepted-here e) _ _ (i .invalidate .ensures .0) (i .invalidate .ensures .1) (c .if1 .left)
+    deleted-done (T r) (M r) (S r .args .tenant) (S r .args .id) (accepted-here e) _ _ (i .invalidate .ensures .0) (i .invalidate .ensures .1) (c .if1 .left)
 
 pub delete-in-spec : {M : Type 1} → statement M
 delete-in-spec =
     tie.close
     (tie.spec
-    ready-requires
+    asked-requires
     enum-known-check
     same-length
     returns

@@ -1,5 +1,7 @@
 -- `dispatch::run_change` meets its contract: a return for call 1, for call 2, and for what is no call.
-use mathlib.Core.Path.{refl, _∙_}
+use Prim.Native.Nat.{ℕ}
+use mathlib.Core.Path.{_≡_, refl, _∙_}
+use mathlib.Core.Option.{none}
 use native.Mathlib.Omega.{arith}
 use borrow.Author.Needs.{needs}
 use Rattle.history.specs.Machine.{reply, next}
@@ -30,13 +32,13 @@ returns : tie.Need-returns
 unfolding callOf replyTo nextBy reply next
 returns c =
     let a = c .before in
-    rw (a .before .before .match .keys1) (c .from-changed .ensures .0 ∙ a .add-server .ensures .0, (c .from-changed .ensures .1 ∙ a .add-server .ensures .1, refl))
+    rw (a .before .before .match .keys1) (λ tenant. c .from-changed .ensures .0 ∙ a .add-server .ensures .0, (λ tenant. c .from-changed .ensures .1 ∙ a .add-server .ensures .1, λ tenant. refl))
 
 returns-2 : tie.Need-returns-2
 unfolding callOf replyTo nextBy reply next
 returns-2 c =
     let a = c .before in
-    rw (a .before .match .keys2) (c .from-changed2 .ensures .0 ∙ a .reweight .ensures .0, (c .from-changed2 .ensures .1 ∙ a .reweight .ensures .1, refl))
+    rw (a .before .match .keys2) (λ tenant. c .from-changed2 .ensures .0 ∙ a .reweight .ensures .0, (λ tenant. c .from-changed2 .ensures .1 ∙ a .reweight .ensures .1, λ tenant. refl))
 
 returns-3 : tie.Need-returns-3
 unfolding replyTo nextBy
@@ -45,8 +47,9 @@ returns-3 c =
     let s = h .before .before in
     let n = s .args .number in
     let few = s .pre in
-    let e = no-call n (s .args .subject) (s .args .amount) (h .match .rest .0 .1) (h .match .rest .1) (λ e. omega (arith, few)) (λ e. omega (arith, few)) (λ e. omega (arith, few)) in
-    rw e (c .no-call .ensures, (refl, refl))
+    let e : ((tenant : ℕ) → callOf n tenant (s .args .subject) (s .args .amount) ≡ none) = λ tenant.
+    no-call n tenant (s .args .subject) (s .args .amount) (h .match .rest .0 .1) (h .match .rest .1) (λ e. omega (arith, few)) (λ e. omega (arith, few)) (λ e. omega (arith, few)) in
+    (λ tenant. rw (e tenant) (c .no-call .ensures), (λ tenant. rw (e tenant), λ tenant. rw (e tenant)))
 
 pub run-change-spec : {M : Type 1} → statement M
 run-change-spec =

@@ -7,7 +7,7 @@ use borrow.Author.Needs.{needs}
 use Rattle.medium.proofs.Entries.{live-used}
 use Rattle.table.specs.declared.Table.{Table}
 use Rattle.table.specs.Parts.{tableOf, usedOf}
-use Rattle.replies.specs.Refusal.{firstOf}
+use Rattle.replies.specs.Refusal.{Row, firstOf}
 use Rattle.replies.specs.Reply.{numberOf, replyOfLookup}
 use Rattle.replies.proofs.Answers.{check-refused, check-accepted}
 use Rattle.search.specs.Search.{searchFor}
@@ -21,39 +21,42 @@ use Rattle.lookup.proofs.Looked.{answer-some, looked-none, looked-some,
 use Rattle.lookup.proofs.lookup_in.Statement.{statement}
 use Rattle.lookup.proofs.lookup_in.Tie as tie
 
-ready-requires : tie.Need-ready-requires
-ready-requires c κs = search needs
+asked-requires : tie.Need-asked-requires
+asked-requires c κs = search needs
 
 enum-known-check : tie.Need-enum-known-check
 enum-known-check c = search needs
 
 -- the call's arguments
-abbrev S : tie.After-ready → tie.Start
+abbrev S : tie.After-asked → tie.Start
 S c = c .before .before
 
-abbrev T : tie.After-ready → Table
+abbrev T : tie.After-asked → Table
 T c = let a = S c .args in tableOf (a .shape) (a .columns)
 
-abbrev M : tie.After-ready → List ℕ
+abbrev M : tie.After-asked → List ℕ
 M c = S c .args .medium .now
 
-refused-here : (c : tie.After-check) → numberOf (c .check .given .0 .0) ≡ firstOf (lookupRows (T (c .before .before)) (M (c .before .before)) (S (c .before .before) .args .id))
-unfolding lookupRows
-refused-here c = check-refused (lookupRows (T (c .before .before)) (M (c .before .before)) (S (c .before .before) .args .id)) (c .before .before .ready .ensures) (c .check .given .1)
+abbrev rows : tie.After-asked → List Row
+rows c = lookupRows (T c) (M c) (S c .args .tenant) (S c .args .id)
 
-accepted-here : (c : tie.After-enum-told) → firstOf (lookupRows (T (c .before .before)) (M (c .before .before)) (S (c .before .before) .args .id)) ≡ 0
+refused-here : (c : tie.After-check) → numberOf (c .check .given .0 .0) ≡ firstOf (rows (c .before .before))
 unfolding lookupRows
-accepted-here c = check-accepted (lookupRows (T (c .before .before)) (M (c .before .before)) (S (c .before .before) .args .id)) (c .before .before .ready .ensures) (c .enum-told .given .1)
+refused-here c = check-refused (rows (c .before .before)) (c .before .before .asked .ensures) (c .check .given .1)
+
+accepted-here : (c : tie.After-enum-told) → firstOf (rows (c .before .before)) ≡ 0
+unfolding lookupRows
+accepted-here c = check-accepted (rows (c .before .before)) (c .before .before .asked .ensures) (c .enum-told .given .1)
 
 returns : tie.Need-returns
 unfolding replyOfLookup
-returns c = let r = c .before .before .before in lookup-refused (T r) (M r) (S r .args .id) _ (refused-here (c .before))
+returns c = let r = c .before .before .before in lookup-refused (T r) (M r) (S r .args .tenant) (S r .args .id) _ (refused-here (c .before))
 
 enum-told : tie.Need-enum-told
 enum-told c = search needs
 
 ready-here : (c : tie.After-enum-told) → Ready (T (c .before .before)) (M (c .before .before))
-ready-here c = lookup-accepted _ _ _ (accepted-here c)
+ready-here c = lookup-accepted _ _ _ _ (accepted-here c)
 
 find-requires : tie.Need-find-requires
 find-requires c κs = (S (c .before .before) .pre, ready-here c .inside)
@@ -62,7 +65,7 @@ find-requires c κs = (S (c .before .before) .pre, ready-here c .inside)
 abbrev E : tie.After-find → tie.After-enum-told
 E c = c .before
 
-abbrev R : tie.After-find → tie.After-ready
+abbrev R : tie.After-find → tie.After-asked
 R c = E c .before .before
 
 enum-known-answer : tie.Need-enum-known-answer
@@ -76,7 +79,7 @@ unfolding replyOfLookup numberOf
 returns-2 c =
     let f = c .before .before .before in
     let r = R f in
-    looked-none (T r) (M r) (S r .args .id) (accepted-here (E f)) _ (f .find .ensures) (c .before .answer .given .1)
+    looked-none (T r) (M r) (S r .args .tenant) (S r .args .id) (accepted-here (E f)) _ (f .find .ensures) (c .before .answer .given .1)
 
 -- the entry met: its server is there, and it is used
 met-here : (c : tie.After-answer2) → Met (T (R (c .before .before))) (M (R (c .before .before))) (S (R (c .before .before)) .args .id) (record { server = c .answer2 .given .0 .0; entry = c .answer2 .given .0 .1 .0 })
@@ -102,13 +105,13 @@ returns-3 c =
     let d = c .before .before in
     let f = d .before .before in
     let r = R f in
-    rw (c .met .ensures) (looked-some (T r) (M r) (S r .args .id) (accepted-here (E f)) _ _ _ (f .find .ensures) (d .answer2 .given .1))
+    rw (c .met .ensures) (looked-some (T r) (M r) (S r .args .tenant) (S r .args .id) (accepted-here (E f)) _ _ _ (f .find .ensures) (d .answer2 .given .1))
 
 pub lookup-in-spec : {M : Type 1} → statement M
 lookup-in-spec =
     tie.close
     (tie.spec
-    ready-requires
+    asked-requires
     enum-known-check
     returns
     enum-told

@@ -1,7 +1,7 @@
--- `writing::plan_write` meets its contract: what the shared tests say, a return for each row after them, and the write server where
+-- `planning::plan_write` meets its contract: what the shared tests say, a return for each row after them, and the write server where
 -- none applies.
 use Prim.Native.Nat.{ℕ, _≤_, _<_}
-use mathlib.Core.Bool.{Bool, true, false, not, _||_}
+use mathlib.Core.Bool.{Bool, true, false, not}
 use mathlib.Core.List.{List, [], _∷_}
 use mathlib.Core.Path.{_≡_, sym, _∙_, ap}
 use native.Mathlib.Omega.{arith}
@@ -19,8 +19,8 @@ use Rattle.replies.specs.Refusal.{Row, _when_, firstOf}
 use Rattle.replies.specs.Reply.{numberOf}
 use Rattle.replies.proofs.Refusals.{settle-yes, first-later, first-earlier}
 use Rattle.replies.proofs.Answers.{number-not-zero, check-refused, check-accepted, plan-refused}
-use Rattle.checks.specs.Ready.{readyRows}
-use Rattle.checks.proofs.Passed.{Ready, ready-numbered, ready-tests, ready-accepted}
+use Rattle.checks.specs.Ready.{askedRows}
+use Rattle.checks.proofs.Passed.{Ready, asked-numbered, asked-tests, asked-ready}
 use Rattle.planning.specs.Plan.{planNumber, planServer}
 use Rattle.planning.specs.WriteRows.{target, entryRows, writeRows}
 use Rattle.planning.proofs.Passed.{target-is}
@@ -34,30 +34,33 @@ array-copy-out-weights c = search needs
 array-copy-out-used : tie.Need-array-copy-out-used
 array-copy-out-used c = search needs
 
-ready-requires : tie.Need-ready-requires
-ready-requires c κs = search needs
+asked-requires : tie.Need-asked-requires
+asked-requires c κs = search needs
 
 -- the table and the medium that are tested, and the rows
-abbrev S : tie.After-ready → tie.Start
+abbrev S : tie.After-asked → tie.Start
 S c = c .before .before .before .before
 
-abbrev T : tie.After-ready → Table
+abbrev T : tie.After-asked → Table
 T c = let a = S c .args in tableOf (a .shape) (a .t2)
 
-abbrev M : tie.After-ready → List ℕ
+abbrev M : tie.After-asked → List ℕ
 M c = S c .args .medium .now
 
-abbrev id : tie.After-ready → ℕ
+abbrev id : tie.After-asked → ℕ
 id c = S c .args .id
 
-abbrev outside : tie.After-ready → Bool
-outside c = leb contentRange (id c) || leb contentRange (S c .args .value)
+abbrev tenant : tie.After-asked → ℕ
+tenant c = S c .args .tenant
 
-abbrev shared : tie.After-ready → List Row
-shared c = readyRows (T c) (M c) (outside c)
+abbrev outside : tie.After-asked → Bool
+outside c = leb contentRange (S c .args .value)
 
-abbrev rows : tie.After-ready → List Row
-rows c = writeRows (T c) (M c) (id c) (S c .args .value)
+abbrev shared : tie.After-asked → List Row
+shared c = askedRows (T c) (M c) (tenant c) (id c) (outside c)
+
+abbrev rows : tie.After-asked → List Row
+rows c = writeRows (T c) (M c) (tenant c) (id c) (S c .args .value)
 
 enum-known-check : tie.Need-enum-known-check
 enum-known-check c = search needs
@@ -66,25 +69,25 @@ returns : tie.Need-returns
 unfolding planNumber planServer writeRows
 returns c =
     let r = c .before .before .before in
-    let e = check-refused (shared r) (r .ready .ensures) (c .before .check .given .1) in
-    plan-refused (rows r) _ _ (e ∙ sym (first-earlier (shared r) _ (ready-numbered (T r) (M r) (outside r)) (λ z. number-not-zero _ (e ∙ z))))
+    let e = check-refused (shared r) (r .asked .ensures) (c .before .check .given .1) in
+    plan-refused (rows r) _ _ (e ∙ sym (first-earlier (shared r) _ (asked-numbered (T r) (M r) (tenant r) (id r) (outside r)) (λ z. number-not-zero _ (e ∙ z))))
 
 enum-told : tie.Need-enum-told
 enum-told c = search needs
 
 -- the shared tests accepted
-abbrev R : tie.After-enum-told → tie.After-ready
+abbrev R : tie.After-enum-told → tie.After-asked
 R c = c .before .before
 
 accepted : (c : tie.After-enum-told) → firstOf (shared (R c)) ≡ 0
-accepted c = check-accepted (shared (R c)) (R c .ready .ensures) (c .enum-told .given .1)
+accepted c = check-accepted (shared (R c)) (R c .asked .ensures) (c .enum-told .given .1)
 
 ready : (c : tie.After-enum-told) → Ready (T (R c)) (M (R c))
-ready c = ready-accepted (T (R c)) (M (R c)) (outside (R c)) (accepted c)
+ready c = asked-ready (T (R c)) (M (R c)) (tenant (R c)) (id (R c)) (outside (R c)) (accepted c)
 
 rest : (c : tie.After-enum-told) → firstOf (rows (R c)) ≡ firstOf (entryRows (T (R c)) (M (R c)) (id (R c)))
 unfolding writeRows
-rest c = first-later (shared (R c)) _ (ready-numbered (T (R c)) (M (R c)) (outside (R c))) (accepted c)
+rest c = first-later (shared (R c)) _ (asked-numbered (T (R c)) (M (R c)) (tenant (R c)) (id (R c)) (outside (R c))) (accepted c)
 
 write-server-requires : tie.Need-write-server-requires
 write-server-requires c κs = sound-bounded (T (R c)) (S (R c) .pre .weights) (sound-facts (T (R c)) (ready c .isSound))
@@ -100,7 +103,7 @@ picked w = w .write-server .ensures
 there : (w : tie.After-write-server) → w .write-server .result < T (R (E w)) .count
 there w =
     let r = R (E w) in
-    let some = eqb-false (T r .count) 0 (ready-tests (T r) (M r) (outside r) (accepted (E w)) .none) in
+    let some = eqb-false (T r .count) 0 (asked-tests (T r) (M r) (tenant r) (id r) (outside r) (accepted (E w)) .none) in
     let l = target-is (T r) (id r) (omega (arith, some)) .below in
     omega (arith, picked w)
 
@@ -169,7 +172,7 @@ plan-write-spec =
     (tie.spec
     array-copy-out-weights
     array-copy-out-used
-    ready-requires
+    asked-requires
     enum-known-check
     returns
     enum-told

@@ -52,12 +52,21 @@ mul-run-3 c = search needs
 shared-slice-read-run-3 : tie.Need-shared-slice-read-run-3 Inv-loop μ-loop
 shared-slice-read-run-3 c = search needs
 
+add-run-4 : tie.Need-add-run-4 Inv-loop μ-loop
+add-run-4 c = search needs
+
+mul-run-4 : tie.Need-mul-run-4 Inv-loop μ-loop
+mul-run-4 c = search needs
+
+shared-slice-read-run-4 : tie.Need-shared-slice-read-run-4 Inv-loop μ-loop
+shared-slice-read-run-4 c = search needs
+
 -- the loop's head, from where the call was run
 abbrev L : tie.After-run Inv-loop μ-loop → tie.At-loop Inv-loop μ-loop
-L c = c .before .before .before .before .before .before .before
+L c = c .before .before .before .before .before .before .before .before
 
 run-requires : tie.Need-run-requires Inv-loop μ-loop
-run-requires c κs = let l = c .before .before .before .before .before .before in omega (arith, l .loop .inv .1, l .loop .inv .2 .done .sameTable)
+run-requires c κs = let l = c .before .before .before .before .before .before .before in omega (arith, l .loop .inv .1, l .loop .inv .2 .done .sameTable)
 
 store-requires : tie.Need-store-requires Inv-loop μ-loop
 store-requires c κs =
@@ -65,7 +74,7 @@ store-requires c κs =
     let l = L r in
     let s = l .before .before .before .before .before in
     let d = l .loop .inv .2 in
-    (omega (arith, l .loop .inv .0, d .begins, d .few, d .done .sameReplies, s .pre .1 .1, r .before .before .before .before .before .before .loop-test .taken), called-small _ _ (r .run .result) (r .run .ensures .0))
+    (omega (arith, l .loop .inv .0, d .begins, d .few, d .done .sameReplies, s .pre .1 .1, r .before .before .before .before .before .before .before .loop-test .taken), called-small _ _ (r .run .result) (r .run .ensures .0))
 
 add-at : tie.Need-add-at Inv-loop μ-loop
 add-at c = search needs
@@ -79,7 +88,7 @@ loop-again c =
     let r = s .before .before .before .before .before .before in
     let l = L r in
     let i = l .loop .inv in
-    (i .0, i .1, one-to _ _ _ _ _ (i .1) (l .loop .at) (l .loop .table) _ (l .loop .medium) _ (l .loop .replies) _ _ (i .2) (search needs) (r .run .ensures .0) (r .run .ensures .1 .0) (r .run .ensures .1 .1) (r .run .kept .1 .0) (s .store .ensures))
+    (i .0, i .1, one-to _ _ _ _ _ (i .1) (l .loop .at) (l .loop .table) _ (l .loop .medium) _ (l .loop .replies) _ _ (i .2) (r .before .before .before .before .before .before .before .loop-test .taken) (r .run .ensures .0) (r .run .ensures .1 .0) (r .run .ensures .1 .1) (r .run .kept .1 .0) (s .store .ensures))
 
 same-length : tie.Need-same-length Inv-loop μ-loop
 same-length c = c .before .loop .inv .2 .done .sameTable
@@ -114,6 +123,9 @@ run-calls-spec =
     add-run-3
     mul-run-3
     shared-slice-read-run-3
+    add-run-4
+    mul-run-4
+    shared-slice-read-run-4
     run-requires
     store-requires
     add-at

@@ -25,7 +25,10 @@ same-length : tie.Need-same-length
 same-length c = search needs
 
 returns : tie.Need-returns
-returns c = search needs
+returns c =
+    let r = c .before .before in
+    let t = r .before .before .before .before .args .tenant in
+    (r .run-change .ensures .0 t, (r .run-change .ensures .1 .0 t, r .run-change .ensures .1 .1 t))
 
 run-in-requires : tie.Need-run-in-requires
 run-in-requires c κs = search needs
@@ -34,7 +37,7 @@ count-in-requires : tie.Need-count-in-requires
 count-in-requires c κs =
     let r = c .before .before .before in
     let a = A r .args in
-    counts (S r) (a .number) (a .subject) (a .amount) (r .run-in .result) (r .run-in .ensures .0) (search needs)
+    counts (S r) (a .number) (a .tenant) (a .subject) (a .amount) (r .run-in .result) (r .run-in .ensures .0) (search needs)
 
 same-length-2 : tie.Need-same-length-2
 same-length-2 c = search needs
@@ -45,7 +48,7 @@ returns-2 c =
     let a = A r .args in
     let one : a .number ≢ addServerNumber = λ e. omega (arith, E r .if1 .left) in
     let two : a .number ≢ reweightNumber = λ e. omega (arith, E r .if1 .left) in
-    called-in (S r) (a .number) (a .subject) (a .amount) (r .run-in .result) (r .run-in .ensures .0) _ _ one two (c .count-in .ensures) (r .run-in .ensures .1)
+    called-in (S r) (a .number) (a .tenant) (a .subject) (a .amount) (r .run-in .result) (r .run-in .ensures .0) _ _ one two (c .count-in .ensures) (r .run-in .ensures .1)
 
 pub run-by-value-spec : {M : Type 1} → statement M
 run-by-value-spec =

@@ -1,7 +1,8 @@
 -- `sheet_call::run_call` meets its contract.
-use mathlib.Core.Path.{refl}
+use mathlib.Core.Path.{_≡_, refl}
 use borrow.Author.Needs.{needs}
 use borrow.Author.Tests.{not-true, not-false}
+use Rattle.tenants.specs.Tenant.{tenantOf}
 use Rattle.dispatch.proofs.Calling.{called-small}
 use Rattle.sheet_start.specs.SheetStart.{sheetOf}
 use Rattle.sheet_start.proofs.Starting.{shown}
@@ -22,6 +23,9 @@ returns c =
     let s = h .before .before .before .before .args in
     asked _ _ _ _ _ _ _ _ (too-early (s .in-use) (s .medium .now) (s .number) (s .subject) (s .amount) (not-true _ (h .if1 .taken))) (a .ask .ensures)
 
+tenant-of-requires : tie.Need-tenant-of-requires
+tenant-of-requires c κs = search needs
+
 run-by-value-requires : tie.Need-run-by-value-requires
 run-by-value-requires c κs = search needs
 
@@ -41,10 +45,12 @@ unfolding sheetOf
 returns-2 c =
     let p = c .before .before .before in
     let r = p .before .before .before .before in
-    let h = r .before .before .before in
+    let n = r .before .before in
+    let h = n .before .before in
     let s = h .before .before .before .before .args in
+    let own : n .tenant-of .result ≡ tenantOf (s .subject) = n .tenant-of .ensures in
     shown _
-    (call-run (s .in-use) (s .medium .now) (s .number) (s .subject) (s .amount) (not-false _ (h .if1 .left)) _ _ _
+    (call-run (s .in-use) (s .medium .now) (s .number) (s .subject) (s .amount) (not-false _ (h .if1 .left)) _ own _ _ _
     (r .run-by-value .ensures .0) (r .run-by-value .ensures .1 .0) (r .run-by-value .ensures .1 .1))
     _ _ _ _ _ (p .put-reply .ensures .0) (p .put-reply .ensures .1) refl
 
@@ -55,6 +61,7 @@ run-call-spec =
     ask-requires
     same-length
     returns
+    tenant-of-requires
     run-by-value-requires
     put-reply-requires
     same-length-2

@@ -32,8 +32,8 @@ abbrev M : tie.After-write-in → List ℕ
 M c = S c .args .medium .now
 
 -- the write as it was answered
-written-to-here : (c : tie.After-answer) → let w = W (c .before .before) in WrittenTo (T w) (M w) (S w .args .id) (S w .args .value) (c .answer .given .0 .0)
-written-to-here c = let w = W (c .before .before) in answered-written (T w) (M w) (S w .args .id) (S w .args .value) (w .write-in .ensures .0) (c .answer .given .1)
+written-to-here : (c : tie.After-answer) → let w = W (c .before .before) in WrittenTo (T w) (M w) (S w .args .tenant) (S w .args .id) (S w .args .value) (c .answer .given .0 .0)
+written-to-here c = let w = W (c .before .before) in answered-written (T w) (M w) (S w .args .tenant) (S w .args .id) (S w .args .value) (w .write-in .ensures .0) (c .answer .given .1)
 
 with-entry-requires : tie.Need-with-entry-requires
 with-entry-requires c κs = let f = written-to-here (c .before) in (f .isSound, f .there)
@@ -44,7 +44,7 @@ same-length c = search needs
 returns : tie.Need-returns
 returns c =
     let w = W (c .before .before) in
-    (w .write-in .ensures .0, (answered-refused (T w) (M w) (S w .args .id) (S w .args .value) (w .write-in .ensures .0) (c .enum-told .given .1), w .write-in .ensures .1))
+    (w .write-in .ensures .0, (answered-refused (T w) (M w) (S w .args .tenant) (S w .args .id) (S w .args .value) (w .write-in .ensures .0) (c .enum-told .given .1), w .write-in .ensures .1))
 
 same-length-2 : tie.Need-same-length-2
 same-length-2 c = search needs

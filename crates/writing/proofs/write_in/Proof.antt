@@ -38,7 +38,7 @@ abbrev M : tie.After-plan-write → List ℕ
 M c = S c .args .medium .now
 
 abbrev rows : tie.After-plan-write → List Row
-rows c = writeRows (T c) (M c) (S c .args .id) (S c .args .value)
+rows c = writeRows (T c) (M c) (S c .args .tenant) (S c .args .id) (S c .args .value)
 
 refused-here : (c : tie.After-plan) → numberOf (c .plan .given .0 .0) ≡ firstOf (rows (c .before .before))
 unfolding planNumber
@@ -55,8 +55,8 @@ accepted-here : (c : tie.After-plan2) → firstOf (rows (W c)) ≡ 0
 unfolding planNumber
 accepted-here c = sym (W c .plan-write .ensures .0) ∙ ap planNumber (c .plan2 .given .1)
 
-facts : (c : tie.After-plan2) → WriteAccepted (T (W c)) (M (W c)) (S (W c) .args .id) (S (W c) .args .value)
-facts c = write-accepted _ _ _ _ (accepted-here c)
+facts : (c : tie.After-plan2) → WriteAccepted (T (W c)) (M (W c)) (S (W c) .args .tenant) (S (W c) .args .id) (S (W c) .args .value)
+facts c = write-accepted _ _ _ _ _ (accepted-here c)
 
 -- it is the write server, it is there, and it has an entry left
 server-is : (c : tie.After-plan2) → server c ≡ target (T (W c)) (S (W c) .args .id)
@@ -113,7 +113,7 @@ returns : tie.Need-returns
 unfolding replyOfWrite
 returns c =
     let w = c .before .before .before in
-    write-refused (T w) (M w) (S w .args .id) (S w .args .value) _ (refused-here (c .before))
+    write-refused (T w) (M w) (S w .args .tenant) (S w .args .id) (S w .args .value) _ (refused-here (c .before))
 
 same-length-2 : tie.Need-same-length-2
 same-length-2 c = search needs
@@ -126,7 +126,7 @@ returns-2 c =
     let a = e .before .before in
     let p = P (a .before) in
     let w = W p in
-    written (T w) (M w) (S w .args .id) (S w .args .value) (accepted-here p) (server p) (a .entry-at .result) _ _ (server-is p) (a .entry-at .ensures)
+    written (T w) (M w) (S w .args .tenant) (S w .args .id) (S w .args .value) (accepted-here p) (server p) (a .entry-at .result) _ _ (server-is p) (a .entry-at .ensures)
     (rw (e .enter .ensures) at (i .invalidate .ensures .0)) (rw (e .enter .ensures) at (i .invalidate .ensures .1))
 
 pub write-in-spec : {M : Type 1} → statement M

@@ -20,6 +20,9 @@ array-read-i c = search needs
 cast-i : tie.Need-cast-i
 cast-i c = search needs
 
+array-read-lookup-batch : tie.Need-array-read-lookup-batch
+array-read-lookup-batch c = search needs
+
 array-share-prefix-numbers : tie.Need-array-share-prefix-numbers
 array-share-prefix-numbers c = search needs
 
@@ -71,6 +74,7 @@ show-spec =
     returns
     array-read-i
     cast-i
+    array-read-lookup-batch
     array-share-prefix-numbers
     slice-aggregate-lookup-batch
     lookup-batch-requires

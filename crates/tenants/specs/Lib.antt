@@ -1,0 +1,2 @@
+pub mod Tenant
+pub mod Known
