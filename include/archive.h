@@ -25,8 +25,12 @@
 extern "C" {
 #endif
 
-/* The version of this interface. It grows when a signature or an encoding changes; archive_abi() answers the library's own. */
-#define ARCHIVE_ABI 1u
+/*
+ * The version of this interface. It grows when a signature or an encoding changes; archive_abi() answers the library's own. The
+ * number of a call or of a refusal never gets another meaning. Version 2 has tenants: word 1 of a call, an argument of
+ * archive_lookup_batch, and refusal 11.
+ */
+#define ARCHIVE_ABI 2u
 
 /* How many words a table, a call and a reply have. */
 #define ARCHIVE_TABLE_WORDS 1026u
@@ -46,15 +50,24 @@ extern "C" {
 #define ARCHIVE_CONTENT_RANGE 1073741824u
 
 /*
+ * Several tenants share an archive. An id belongs to the tenant that the top three of its 30 bits say, 0 to 7: tenant t has the
+ * ids from t * 2^27 up to but not including (t + 1) * 2^27. A call that names an id says which tenant makes it, and is refused
+ * for another tenant's id.
+ */
+#define ARCHIVE_TENANTS 8u
+#define ARCHIVE_TENANT_OF(id) ((uint32_t)(id) >> 27)
+
+/*
  * A call is eight words. The number, word 0, says which of the others count; those that do not count are not read.
  *
- *   number                  SUBJECT   AMOUNT    what it does, and what its reply has
- *   ARCHIVE_ADD_SERVER                weight    adds a server; SERVER is its number, 0 for the first, then 1 and so on
- *   ARCHIVE_REWEIGHT        server    weight    sets a server's weight (its share of new writes); SERVER is that server
- *   ARCHIVE_WRITE           id        value     writes; SERVER is where it went, INVALIDATED how many earlier entries of the
- *                                               id it marked as replaced
- *   ARCHIVE_DELETE          id                  deletes; INVALIDATED is how many entries it marked as deleted
- *   ARCHIVE_LOOKUP          id                  looks up; VALUE is the value last written, OPENED how many servers were opened
+ *   number               TENANT   SUBJECT   AMOUNT   what it does, and what its reply has
+ *   ARCHIVE_ADD_SERVER                      weight   adds a server; SERVER is its number, 0 for the first, then 1 and so on
+ *   ARCHIVE_REWEIGHT              server    weight   sets a server's weight (its share of new writes); SERVER is that server
+ *   ARCHIVE_WRITE        tenant   id        value    writes; SERVER is where it went, INVALIDATED how many earlier entries of
+ *                                                    the id it marked as replaced
+ *   ARCHIVE_DELETE       tenant   id                 deletes; INVALIDATED is how many entries it marked as deleted
+ *   ARCHIVE_LOOKUP       tenant   id                 looks up; VALUE is the value last written, OPENED how many servers were
+ *                                                    opened
  *
  * The other words are for later calls. A number that is no call's gets ARCHIVE_NO_CALL and changes nothing.
  */
@@ -66,6 +79,7 @@ extern "C" {
 
 /* Which word of a call is which. */
 #define ARCHIVE_CALL_NUMBER 0
+#define ARCHIVE_CALL_TENANT 1
 #define ARCHIVE_CALL_SUBJECT 2
 #define ARCHIVE_CALL_AMOUNT 3
 
@@ -76,10 +90,13 @@ extern "C" {
 #define ARCHIVE_REPLY_OPENED 4
 #define ARCHIVE_REPLY_INVALIDATED 5
 
-/* Refusal numbers, each with the word that the paper has for it. 0 is no refusal: the call was carried out. */
+/*
+ * Refusal numbers, each with the word that the paper has for it. 0 is no refusal: the call was carried out. Of several that apply
+ * the lowest is given, but for 11, which is tested right after 2.
+ */
 #define ARCHIVE_ACCEPTED 0u
 #define ARCHIVE_UNSOUND_TABLE 1u     /* foreign table: its words are no table that calls can have made */
-#define ARCHIVE_OUT_OF_RANGE 2u      /* out of range: a capacity, weight, id or value, or a list of more than 256 ids */
+#define ARCHIVE_OUT_OF_RANGE 2u      /* out of range: a capacity, weight, tenant, id or value, or a list of more than 256 ids */
 #define ARCHIVE_NO_SUCH_SERVER 3u    /* no such shelf: no server has that number, or there is none at all */
 #define ARCHIVE_TOO_MANY_SERVERS 4u  /* rack full: there are 256 servers already */
 #define ARCHIVE_SHORT_MEDIUM 5u      /* short medium: the medium has too few words for the servers */
@@ -88,6 +105,7 @@ extern "C" {
 #define ARCHIVE_NOT_FOUND 8u         /* absent: the id was never written, or was deleted since */
 #define ARCHIVE_EXCEEDS_FREE 9u      /* over free: the weight is more than the server has free entries */
 #define ARCHIVE_CORRUPT 10u          /* damaged: the value word found is no value */
+#define ARCHIVE_OTHER_TENANT 11u     /* another club's ticket: the id belongs to another tenant than the caller */
 
 /* Numbers that no call gives. */
 #define ARCHIVE_SHORT 4294967294u    /* a run that was lent is too short; nothing was done */
@@ -116,8 +134,8 @@ uint32_t archive_call(uint32_t *table, size_t table_words,
                       uint32_t *reply, size_t reply_words);
 
 /*
- * Looks up to 256 ids up together, and opens each server at most once for all of them. Repeats are allowed.
- * replies  eight words for each id, in the order of the ids: what ARCHIVE_LOOKUP alone would reply
+ * Looks up to 256 ids up together for one tenant, and opens each server at most once for all of them. Repeats are allowed.
+ * replies  eight words for each id, in the order of the ids: what ARCHIVE_LOOKUP alone would reply to this tenant
  * order    one word for each id: the positions in the list, in the order in which they are found, server by server
  * mounts   one word: how many different servers were opened
  * Answers ARCHIVE_ACCEPTED, whatever the ids' own refusals are; ARCHIVE_OUT_OF_RANGE, or ARCHIVE_UNSOUND_TABLE, for a list of
@@ -125,6 +143,7 @@ uint32_t archive_call(uint32_t *table, size_t table_words,
  */
 uint32_t archive_lookup_batch(const uint32_t *table, size_t table_words,
                               const uint32_t *medium, size_t medium_words,
+                              uint32_t tenant,
                               const uint32_t *ids, size_t ids_words,
                               uint32_t *replies, size_t replies_words,
                               uint32_t *order, size_t order_words,

@@ -1,4 +1,4 @@
-/* Starts an archive of three servers, writes two tickets, looks them up, and prints what it did. */
+/* Starts an archive of three servers, writes tickets of two tenants, looks them up, and prints what it did. */
 #include <stdio.h>
 #include <stdlib.h>
 #include "archive.h"
@@ -9,30 +9,35 @@
 
 static uint32_t table[ARCHIVE_TABLE_WORDS], medium[WORDS], reply[ARCHIVE_REPLY_WORDS];
 
-/* One call; a refusal other than `absent` ends the program. */
-static uint32_t call(uint32_t number, uint32_t subject, uint32_t amount)
+/* One call; a refusal other than `absent` and `another club's ticket` ends the program. */
+static uint32_t call(uint32_t number, uint32_t tenant, uint32_t subject, uint32_t amount)
 {
     uint32_t words[ARCHIVE_CALL_WORDS] = {0};
     words[ARCHIVE_CALL_NUMBER] = number;
+    words[ARCHIVE_CALL_TENANT] = tenant;
     words[ARCHIVE_CALL_SUBJECT] = subject;
     words[ARCHIVE_CALL_AMOUNT] = amount;
     uint32_t refusal = archive_call(table, ARCHIVE_TABLE_WORDS, medium, WORDS, words, ARCHIVE_CALL_WORDS, reply, ARCHIVE_REPLY_WORDS);
-    if (refusal != ARCHIVE_ACCEPTED && refusal != ARCHIVE_NOT_FOUND) {
+    if (refusal != ARCHIVE_ACCEPTED && refusal != ARCHIVE_NOT_FOUND && refusal != ARCHIVE_OTHER_TENANT) {
         fprintf(stderr, "call %u was refused: %u\n", (unsigned)number, (unsigned)refusal);
         exit(1);
     }
     return refusal;
 }
 
+/* A write by the ticket's own tenant. */
 static void write_ticket(uint32_t id, uint32_t value)
 {
-    call(ARCHIVE_WRITE, id, value);
+    call(ARCHIVE_WRITE, ARCHIVE_TENANT_OF(id), id, value);
     printf("ticket %u: %u on server %u\n", (unsigned)id, (unsigned)value, (unsigned)reply[ARCHIVE_REPLY_SERVER]);
 }
 
-static void look_up(uint32_t id)
+static void look_up(uint32_t tenant, uint32_t id)
 {
-    if (call(ARCHIVE_LOOKUP, id, 0) == ARCHIVE_NOT_FOUND)
+    uint32_t refusal = call(ARCHIVE_LOOKUP, tenant, id, 0);
+    if (refusal == ARCHIVE_OTHER_TENANT)
+        printf("ticket %u: not of tenant %u\n", (unsigned)id, (unsigned)tenant);
+    else if (refusal == ARCHIVE_NOT_FOUND)
         printf("ticket %u: absent, %u opened\n", (unsigned)id, (unsigned)reply[ARCHIVE_REPLY_OPENED]);
     else
         printf("ticket %u is worth %u, %u opened\n", (unsigned)id, (unsigned)reply[ARCHIVE_REPLY_VALUE], (unsigned)reply[ARCHIVE_REPLY_OPENED]);
@@ -45,12 +50,15 @@ int main(void)
     for (size_t i = 0; i < WORDS; i++)
         medium[i] = ARCHIVE_BLANK;
     for (uint32_t k = 0; k < SERVERS; k++)
-        call(ARCHIVE_ADD_SERVER, 0, 50);
+        call(ARCHIVE_ADD_SERVER, 0, 0, 50);
     write_ticket(1001, 250);
     write_ticket(1002, 500);
+    write_ticket(626627286, 75);
     write_ticket(1001, 300);
-    look_up(1001);
-    call(ARCHIVE_DELETE, 1002, 0);
-    look_up(1002);
+    look_up(0, 1001);
+    look_up(4, 1001);
+    look_up(4, 626627286);
+    call(ARCHIVE_DELETE, 0, 1002, 0);
+    look_up(0, 1002);
     return 0;
 }

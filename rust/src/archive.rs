@@ -1,10 +1,11 @@
-//! The archive in ordinary Rust, from document 01: a mutable table and a lent medium.
-//! A refused call changes neither.
+//! The archive in ordinary Rust, from document 01 and the second request of document 02: a mutable
+//! table and a lent medium. A refused call changes neither.
 
 use crate::placement::{draw, share, write_server, Fraction, MAX_CAPACITY, MAX_SERVERS};
 
 pub const BLANK: u32 = u32::MAX;
 pub const CONTENT_RANGE: u32 = 1 << 30;
+pub const TENANTS: u32 = 8;
 pub const MAX_DENOMINATOR: u32 = 1 << 24;
 const VALUE_TAG: u32 = 1;
 const MARK_TAG: u32 = 2;
@@ -21,6 +22,7 @@ pub enum Refusal {
     Absent = 8,
     OverFree = 9,
     Damaged = 10,
+    OtherTenant = 11,
 }
 
 #[derive(Clone, Copy)]
@@ -55,6 +57,11 @@ impl From<Refusal> for Missed {
     fn from(refusal: Refusal) -> Self {
         Missed { refusal, opened: 0 }
     }
+}
+
+/// The tenant that an id in range belongs to, the top three of its 30 bits; 8 and more for others.
+pub fn tenant_of(id: u32) -> u32 {
+    id >> 27
 }
 
 /// The words of one entry: id, value, mark.
@@ -162,13 +169,14 @@ impl Table {
         Ok(server)
     }
 
-    pub fn write(&mut self, medium: &mut [u32], id: u32, value: u32) -> Result<Written, Refusal> {
-        self.refuse_unsound()?;
-        refuse_if(
-            id >= CONTENT_RANGE || value >= CONTENT_RANGE,
-            Refusal::OutOfRange,
-        )?;
-        self.refuse_no_medium(medium)?;
+    pub fn write(
+        &mut self,
+        medium: &mut [u32],
+        tenant: u32,
+        id: u32,
+        value: u32,
+    ) -> Result<Written, Refusal> {
+        self.refuse_asked(medium, tenant, id, value >= CONTENT_RANGE)?;
         let server = write_server(&self.weights[..self.count as usize], id);
         let used = self.used[server];
         refuse_if(used == self.capacity, Refusal::ServerFull)?;
@@ -185,20 +193,16 @@ impl Table {
     }
 
     /// Answers how many entries it invalidated.
-    pub fn delete(&self, medium: &mut [u32], id: u32) -> Result<u32, Refusal> {
-        self.refuse_unsound()?;
-        refuse_if(id >= CONTENT_RANGE, Refusal::OutOfRange)?;
-        self.refuse_no_medium(medium)?;
+    pub fn delete(&self, medium: &mut [u32], tenant: u32, id: u32) -> Result<u32, Refusal> {
+        self.refuse_asked(medium, tenant, id, false)?;
         match self.invalidate(medium, 0, id, Mark::Deleted) {
             0 => Err(Refusal::Absent),
             invalidated => Ok(invalidated),
         }
     }
 
-    pub fn lookup(&self, medium: &[u32], id: u32) -> Result<Found, Missed> {
-        self.refuse_unsound()?;
-        refuse_if(id >= CONTENT_RANGE, Refusal::OutOfRange)?;
-        self.refuse_no_medium(medium)?;
+    pub fn lookup(&self, medium: &[u32], tenant: u32, id: u32) -> Result<Found, Missed> {
+        self.refuse_asked(medium, tenant, id, false)?;
         let mut opened = 0;
         for server in (0..self.count as usize).rev() {
             if !self.is_readable(server, id) {
@@ -217,9 +221,9 @@ impl Table {
     }
 
     /// The servers that a lookup opens, in the order of opening; none where it is refused before.
-    pub fn opens(&self, medium: &[u32], id: u32) -> Vec<usize> {
+    pub fn opens(&self, medium: &[u32], tenant: u32, id: u32) -> Vec<usize> {
         let mut opened = Vec::new();
-        if !self.is_sound() || id >= CONTENT_RANGE || self.refuse_no_medium(medium).is_err() {
+        if self.refuse_asked(medium, tenant, id, false).is_err() {
             return opened;
         }
         let servers = 0..self.count as usize;
@@ -251,7 +255,20 @@ impl Table {
         refuse_if(!self.is_sound(), Refusal::Unsound)
     }
 
-    fn refuse_no_medium(&self, medium: &[u32]) -> Result<(), Refusal> {
+    /// The tests that write, delete and lookup begin with; `outside` is that of another argument.
+    fn refuse_asked(
+        &self,
+        medium: &[u32],
+        tenant: u32,
+        id: u32,
+        outside: bool,
+    ) -> Result<(), Refusal> {
+        self.refuse_unsound()?;
+        refuse_if(
+            tenant >= TENANTS || id >= CONTENT_RANGE || outside,
+            Refusal::OutOfRange,
+        )?;
+        refuse_if(tenant_of(id) != tenant, Refusal::OtherTenant)?;
         refuse_if(self.count == 0, Refusal::NoSuchServer)?;
         self.refuse_short(medium, self.count as usize)
     }

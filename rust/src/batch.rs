@@ -1,5 +1,5 @@
-//! A batch of lookups in ordinary Rust, from the first request of document 02: each id is looked
-//! up alone, and the mounts and the order of finding come from the servers that it opens.
+//! A batch of lookups in ordinary Rust, from the first two requests of document 02: each id is
+//! looked up alone, and the mounts and the order of finding come from the servers that it opens.
 
 use std::collections::BTreeSet;
 
@@ -20,15 +20,17 @@ pub struct Batch {
 
 impl Table {
     /// Only a list that is too long is refused as a whole, by the lowest number that applies.
-    pub fn lookup_batch(&self, medium: &[u32], ids: &[u32]) -> Result<Batch, Refusal> {
+    pub fn lookup_batch(&self, medium: &[u32], tenant: u32, ids: &[u32]) -> Result<Batch, Refusal> {
         if ids.len() > MAX_IDS {
             return Err(match self.is_sound() {
                 true => Refusal::OutOfRange,
                 false => Refusal::Unsound,
             });
         }
-        let replies = ids.iter().map(|&id| self.run_lookup(medium, id)).collect();
-        let opened: Vec<Vec<usize>> = ids.iter().map(|&id| self.opens(medium, id)).collect();
+        let reply = |&id: &u32| self.run_lookup(medium, tenant, id);
+        let opens = |&id: &u32| self.opens(medium, tenant, id);
+        let replies = ids.iter().map(reply).collect();
+        let opened: Vec<Vec<usize>> = ids.iter().map(opens).collect();
         let mut order: Vec<usize> = (0..ids.len()).collect();
         // This sort keeps equals in the order of their positions.
         order.sort_by_key(|&at| rank(opened[at].last()));
@@ -50,6 +52,7 @@ fn rank(end: Option<&usize>) -> usize {
 pub fn lookup_batch(
     table: &[u32],
     medium: &[u32],
+    tenant: u32,
     ids: &[u32],
     replies: &mut [u32],
     order: &mut [u32],
@@ -62,7 +65,7 @@ pub fn lookup_batch(
     if replies.len() < REPLY_WORDS * n || order.len() < n || mounts.is_empty() {
         return SHORT;
     }
-    let batch = match Table::from_words(words).lookup_batch(medium, ids) {
+    let batch = match Table::from_words(words).lookup_batch(medium, tenant, ids) {
         Ok(batch) => batch,
         Err(refusal) => return refusal as u32,
     };

@@ -6,8 +6,8 @@ use crate::calls::{Reply, REFUSAL, REPLY_WORDS};
 use crate::differ::{compare_words, Difference, Lent, Tally, UNSTORED};
 use ticket_archive::{functions as proved, Archive};
 
-/// Table, medium, ids, replies, order, mounts; answers the number of the list.
-type Lookups = fn(&[u32], &[u32], &[u32], &mut [u32], &mut [u32], &mut [u32]) -> u32;
+/// Table, medium, tenant, ids, replies, order, mounts; answers the number of the list.
+type Lookups = fn(&[u32], &[u32], u32, &[u32], &mut [u32], &mut [u32], &mut [u32]) -> u32;
 
 /// How many words are lent for the answer.
 #[derive(Clone, Copy, Debug)]
@@ -37,12 +37,20 @@ struct Answered {
     mounts: Vec<u32>,
 }
 
-fn answered(run: Lookups, lent: [Vec<u32>; 3], room: Room) -> Answered {
+fn answered(run: Lookups, lent: [Vec<u32>; 3], tenant: u32, room: Room) -> Answered {
     let mut replies = vec![UNSTORED; room.replies];
     let mut order = vec![UNSTORED; room.order];
     let mut mounts = vec![UNSTORED; room.mounts];
     let [table, medium, ids] = &lent;
-    let number = run(table, medium, ids, &mut replies, &mut order, &mut mounts);
+    let number = run(
+        table,
+        medium,
+        tenant,
+        ids,
+        &mut replies,
+        &mut order,
+        &mut mounts,
+    );
     Answered {
         number,
         lent,
@@ -68,6 +76,7 @@ fn compare_answers(proved: &Answered, rust: &Answered) -> Result<(), Difference>
 fn by_method(
     table: &[u32],
     medium: &[u32],
+    tenant: u32,
     ids: &[u32],
     replies: &mut [u32],
     order: &mut [u32],
@@ -75,7 +84,7 @@ fn by_method(
 ) -> u32 {
     let table = *table.first_chunk().expect("a whole table");
     let mut medium = medium.to_vec();
-    let batch = match Archive::from_words(table, &mut medium).lookup_batch(ids) {
+    let batch = match Archive::from_words(table, &mut medium).lookup_batch(tenant, ids) {
         Ok(batch) => batch,
         Err(refusal) => return refusal as u32,
     };
@@ -89,11 +98,17 @@ fn by_method(
 }
 
 impl Lent {
-    /// Looks the ids up on both sides, with so much room for the answer.
-    pub fn run_batch(&self, ids: &[u32], room: Room, tally: &mut Tally) -> Result<(), Difference> {
+    /// Looks the ids up for a tenant on both sides, with so much room for the answer.
+    pub fn run_batch(
+        &self,
+        tenant: u32,
+        ids: &[u32],
+        room: Room,
+        tally: &mut Tally,
+    ) -> Result<(), Difference> {
         let answered = |run: Lookups| {
             let lent = [self.table.clone(), self.medium.clone(), ids.to_vec()];
-            answered(run, lent, room)
+            answered(run, lent, tenant, room)
         };
         let proved = answered(proved::lookup_batch);
         let rust = answered(batch::lookup_batch);
@@ -104,17 +119,17 @@ impl Lent {
                 _ => compare_answers(&answered(by_method), &rust)
                     .map_err(|text| format!("by the method: {text}")),
             })
-            .map_err(|text| self.described(text, ids, room))
+            .map_err(|text| self.described(text, tenant, ids, room))
     }
 
-    fn described(&self, text: Difference, ids: &[u32], room: Room) -> Difference {
+    fn described(&self, text: Difference, tenant: u32, ids: &[u32], room: Room) -> Difference {
         let words = self.medium.len();
         let table = match self.table.first_chunk() {
             Some(words) => Table::from_words(words).described(),
             None => format!("a table of {} words", self.table.len()),
         };
         format!(
-            "{text}\n{table}\n{words} words of medium, {room:?}\nids {ids:?}\nmedium {:?}\n",
+            "{text}\n{table}\n{words} words of medium, {room:?}\ntenant {tenant}, ids {ids:?}\nmedium {:?}\n",
             self.medium
         )
     }

@@ -1,10 +1,10 @@
 //! The kinds of batches that are compared.
 
-use crate::archive::{Table, BLANK, CONTENT_RANGE};
+use crate::archive::{tenant_of, Table, BLANK, CONTENT_RANGE};
 use crate::batch_differ::Room;
 use crate::calls::{Call, REPLY_WORDS};
 use crate::differ::{Difference, Lent, Tally};
-use crate::lists::Shape;
+use crate::lists::{caller, Shape};
 use crate::random::Random;
 use crate::suites::{alter, any_table, damage, raise_used, Suite};
 
@@ -18,7 +18,8 @@ pub const SUITES: [(&str, Suite, u64); 6] = [
     ("batches with too little room", little_room, 3),
 ];
 
-/// A small archive with a list of calls behind it, and now and then more ids than usual.
+/// A small archive with a list of calls behind it, and now and then more ids than usual. Mostly one
+/// tenant has most of them.
 fn begun(random: &mut Random, tally: &mut Tally) -> Result<(Shape, Lent), Difference> {
     let mut shape = match random.below(8) {
         0 => Shape::random(random, 32, 24),
@@ -26,6 +27,9 @@ fn begun(random: &mut Random, tally: &mut Tally) -> Result<(Shape, Lent), Differ
     };
     if random.one_in(3) {
         shape.ids = (0..40).map(|_| random.below(CONTENT_RANGE)).collect();
+    }
+    if !random.one_in(4) {
+        shape = shape.mostly_of_one(random);
     }
     let table = Table::start(shape.capacity).expect("in range");
     let mut lent = Lent::new(&table, vec![BLANK; shape.medium_len(random)]);
@@ -63,6 +67,15 @@ fn list(random: &mut Random, shape: &Shape) -> Vec<u32> {
     ids(random, shape, length)
 }
 
+/// Whose batch it is: mostly that of an id that the calls name, or of one of the list.
+fn tenant(random: &mut Random, shape: &Shape, ids: &[u32]) -> u32 {
+    if !ids.is_empty() && random.one_in(4) {
+        return tenant_of(random.pick(ids));
+    }
+    let id = random.pick(&shape.ids);
+    caller(random, id)
+}
+
 /// A batch of any length, with just enough room or more.
 fn run(
     random: &mut Random,
@@ -77,7 +90,8 @@ fn run(
         room.order += random.below(3) as usize;
         room.mounts += random.below(3) as usize;
     }
-    lent.run_batch(&ids, room, tally)
+    let tenant = tenant(random, shape, &ids);
+    lent.run_batch(tenant, &ids, room, tally)
 }
 
 /// Some calls that change what a batch finds.
@@ -152,6 +166,7 @@ fn many_servers(random: &mut Random, tally: &mut Tally) -> Result<(), Difference
     let mut shape = Shape::random(random, 4, 1);
     shape.servers = random.between(250, 257);
     shape.ids = (0..300).map(|_| random.below(CONTENT_RANGE)).collect();
+    let shape = shape.mostly_of_one(random);
     let table = Table::start(shape.capacity).expect("in range");
     let mut lent = Lent::new(&table, vec![BLANK; shape.medium_len(random)]);
     let added = (0..shape.servers).map(|_| Call::AddServer {
@@ -186,5 +201,6 @@ fn little_room(random: &mut Random, tally: &mut Tally) -> Result<(), Difference>
             lent.table.truncate(kept);
         }
     }
-    lent.run_batch(&ids, room, tally)
+    let tenant = tenant(random, &shape, &ids);
+    lent.run_batch(tenant, &ids, room, tally)
 }

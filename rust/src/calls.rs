@@ -1,13 +1,14 @@
 //! Calls and replies as words, and lists of them run on the Rust implementation. The layout is
 //! that of the proved functions: eight words a call, eight a reply, 1,026 a table.
 
-use crate::archive::{Missed, Refusal, Table};
+use crate::archive::{tenant_of, Missed, Refusal, Table};
 use crate::placement::MAX_SERVERS;
 
-/// A call's words: its number, an id or a server, and a value or a weight. The other five are
-/// not read.
+/// A call's words: its number, a tenant, an id or a server, and a value or a weight. The other four
+/// are not read.
 pub const CALL_WORDS: usize = 8;
 const NUMBER: usize = 0;
+const TENANT: usize = 1;
 const SUBJECT: usize = 2;
 const AMOUNT: usize = 3;
 
@@ -31,13 +32,16 @@ pub enum Call {
         weight: u32,
     },
     Write {
+        tenant: u32,
         id: u32,
         value: u32,
     },
     Delete {
+        tenant: u32,
         id: u32,
     },
     Lookup {
+        tenant: u32,
         id: u32,
     },
     /// A number that is no call.
@@ -47,33 +51,52 @@ pub enum Call {
 }
 
 impl Call {
-    /// Its number, and the subject and the amount if it has them.
-    fn parts(self) -> (u32, Option<u32>, Option<u32>) {
+    /// A write by the id's own tenant.
+    pub fn write(id: u32, value: u32) -> Self {
+        let tenant = tenant_of(id);
+        Call::Write { tenant, id, value }
+    }
+
+    /// A delete by the id's own tenant.
+    pub fn delete(id: u32) -> Self {
+        let tenant = tenant_of(id);
+        Call::Delete { tenant, id }
+    }
+
+    /// A lookup by the id's own tenant.
+    pub fn lookup(id: u32) -> Self {
+        let tenant = tenant_of(id);
+        Call::Lookup { tenant, id }
+    }
+
+    /// Its number, and the tenant, the subject and the amount if it has them.
+    fn parts(self) -> (u32, Option<u32>, Option<u32>, Option<u32>) {
         match self {
-            Call::AddServer { weight } => (1, None, Some(weight)),
-            Call::Reweight { server, weight } => (2, Some(server), Some(weight)),
-            Call::Write { id, value } => (3, Some(id), Some(value)),
-            Call::Delete { id } => (4, Some(id), None),
-            Call::Lookup { id } => (5, Some(id), None),
-            Call::None { number } => (number, None, None),
+            Call::AddServer { weight } => (1, None, None, Some(weight)),
+            Call::Reweight { server, weight } => (2, None, Some(server), Some(weight)),
+            Call::Write { tenant, id, value } => (3, Some(tenant), Some(id), Some(value)),
+            Call::Delete { tenant, id } => (4, Some(tenant), Some(id), None),
+            Call::Lookup { tenant, id } => (5, Some(tenant), Some(id), None),
+            Call::None { number } => (number, None, None, None),
         }
     }
 
     /// Its words; those that it does not read are `unread`.
     pub fn words(self, unread: u32) -> [u32; CALL_WORDS] {
-        let (number, subject, amount) = self.parts();
+        let (number, tenant, subject, amount) = self.parts();
         let mut words = [unread; CALL_WORDS];
         words[NUMBER] = number;
+        words[TENANT] = tenant.unwrap_or(unread);
         words[SUBJECT] = subject.unwrap_or(unread);
         words[AMOUNT] = amount.unwrap_or(unread);
         words
     }
 
     pub fn from_words(words: [u32; CALL_WORDS]) -> Self {
-        Self::from_parts(words[NUMBER], words[SUBJECT], words[AMOUNT])
+        Self::from_parts(words[NUMBER], words[TENANT], words[SUBJECT], words[AMOUNT])
     }
 
-    pub fn from_parts(number: u32, subject: u32, amount: u32) -> Self {
+    pub fn from_parts(number: u32, tenant: u32, subject: u32, amount: u32) -> Self {
         match number {
             1 => Call::AddServer { weight: amount },
             2 => Call::Reweight {
@@ -81,11 +104,18 @@ impl Call {
                 weight: amount,
             },
             3 => Call::Write {
+                tenant,
                 id: subject,
                 value: amount,
             },
-            4 => Call::Delete { id: subject },
-            5 => Call::Lookup { id: subject },
+            4 => Call::Delete {
+                tenant,
+                id: subject,
+            },
+            5 => Call::Lookup {
+                tenant,
+                id: subject,
+            },
             _ => Call::None { number },
         }
     }
@@ -206,23 +236,27 @@ impl Table {
                     ..Reply::default()
                 })
             }
-            Call::Write { id, value } => self.write(medium, id, value).map(|written| Reply {
-                server: written.server,
-                invalidated: written.invalidated,
-                ..Reply::default()
-            }),
-            Call::Delete { id } => self.delete(medium, id).map(|invalidated| Reply {
-                invalidated,
-                ..Reply::default()
-            }),
-            Call::Lookup { id } => return self.run_lookup(medium, id),
+            Call::Write { tenant, id, value } => {
+                self.write(medium, tenant, id, value).map(|written| Reply {
+                    server: written.server,
+                    invalidated: written.invalidated,
+                    ..Reply::default()
+                })
+            }
+            Call::Delete { tenant, id } => {
+                self.delete(medium, tenant, id).map(|invalidated| Reply {
+                    invalidated,
+                    ..Reply::default()
+                })
+            }
+            Call::Lookup { tenant, id } => return self.run_lookup(medium, tenant, id),
             Call::None { .. } => return Reply::NO_CALL,
         };
         result.unwrap_or_else(Reply::refused)
     }
 
-    pub fn run_lookup(&self, medium: &[u32], id: u32) -> Reply {
-        match self.lookup(medium, id) {
+    pub fn run_lookup(&self, medium: &[u32], tenant: u32, id: u32) -> Reply {
+        match self.lookup(medium, tenant, id) {
             Ok(found) => Reply {
                 value: found.value,
                 opened: found.opened,

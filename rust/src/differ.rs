@@ -18,7 +18,7 @@ pub struct Tally {
     pub lists: u64,
     pub calls: u64,
     pub accepted: u64,
-    pub refusals: [u64; 11],
+    pub refusals: [u64; 12],
     pub no_calls: u64,
     pub picks: u64,
     /// Calls run one at a time, and the runs too short and the starts among them.
@@ -30,7 +30,13 @@ pub struct Tally {
     pub batches_refused: [u64; 3],
     /// The ids of the accepted batches, and how often each refusal was an id's; 0 is acceptance.
     pub batch_ids: u64,
-    pub batch_refusals: [u64; 11],
+    pub batch_refusals: [u64; 12],
+    /// Pairs of histories with other neighbours in which all was accepted alike, and others.
+    pub alike: u64,
+    pub parted: u64,
+    /// What was compared in such pairs: calls, and ids of batches.
+    pub neighbours_calls: u64,
+    pub neighbours_ids: u64,
 }
 
 impl Tally {
@@ -40,7 +46,7 @@ impl Tally {
             self.calls += 1;
             match reply[REFUSAL] {
                 0 => self.accepted += 1,
-                number @ 1..=10 => self.refusals[number as usize] += 1,
+                number @ 1..=11 => self.refusals[number as usize] += 1,
                 _ => self.no_calls += 1,
             }
         }

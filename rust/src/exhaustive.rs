@@ -1,19 +1,23 @@
 //! Every short list of calls on two or three servers of capacity 1.
 
-use crate::archive::CONTENT_RANGE;
+use crate::archive::{tenant_of, CONTENT_RANGE, TENANTS};
 use crate::calls::Call;
 use crate::differ::{run_blank, Difference, Tally};
+use crate::lists::moved;
 use crate::random::Random;
 
 /// Every list of `depth` calls over a small alphabet, on a medium for so many servers of capacity
-/// 1: from nothing, and after every choice of weights 0 and 1 for all servers.
+/// 1: from nothing, and after every choice of weights 0 and 1 for all servers. The two ids differ in
+/// their tenant alone.
 pub fn run(
     random: &mut Random,
     servers: u32,
     depth: u32,
     tally: &mut Tally,
 ) -> Result<(), Difference> {
-    let ids = [random.below(CONTENT_RANGE), random.below(CONTENT_RANGE)];
+    let id = random.below(CONTENT_RANGE);
+    let other = (tenant_of(id) + random.between(1, TENANTS - 1)) % TENANTS;
+    let ids = [id, moved(id, other)];
     let calls = alphabet(servers, &ids);
     let medium_len = 3 * servers as usize;
     let mut compare = |list: &[Call]| run_blank(1, medium_len, list, tally);
@@ -29,8 +33,9 @@ fn added(weight: u32) -> Call {
     Call::AddServer { weight }
 }
 
-/// Calls on servers that are there: each weight, and what can be done with each id.
-fn alphabet(servers: u32, ids: &[u32]) -> Vec<Call> {
+/// Calls on servers that are there: each weight, what can be done with each id, and a write of the
+/// first id by the second one's tenant.
+fn alphabet(servers: u32, ids: &[u32; 2]) -> Vec<Call> {
     let mut calls = Vec::new();
     for server in 0..servers {
         for weight in 0..2 {
@@ -38,10 +43,16 @@ fn alphabet(servers: u32, ids: &[u32]) -> Vec<Call> {
         }
     }
     for (&id, value) in ids.iter().zip(1..) {
-        calls.push(Call::Write { id, value });
-        calls.push(Call::Delete { id });
-        calls.push(Call::Lookup { id });
+        calls.push(Call::write(id, value));
+        calls.push(Call::delete(id));
+        calls.push(Call::lookup(id));
     }
+    let [id, other] = *ids;
+    calls.push(Call::Write {
+        tenant: tenant_of(other),
+        id,
+        value: 3,
+    });
     calls
 }
 

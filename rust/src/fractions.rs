@@ -57,8 +57,8 @@ pub fn on_fraction(random: &mut Random, tally: &mut Tally) -> Result<(), Differe
         .map(|&weight| Call::AddServer { weight })
         .collect();
     for &id in &shape.ids {
-        list.push(Call::Write { id, value: 1 });
-        list.push(Call::Lookup { id });
+        list.push(Call::write(id, 1));
+        list.push(Call::lookup(id));
     }
     list.extend((0..20).map(|_| shape.call(random)));
     run_blank(shape.capacity, medium_len, &list, tally)?;
@@ -105,10 +105,10 @@ pub fn near_fraction(random: &mut Random, tally: &mut Tally) -> Result<(), Diffe
         vec![BLANK; 3 * (server + 1)],
     );
     let list = [
-        Call::Lookup { id },
-        Call::Write { id, value: 1 },
-        Call::Lookup { id },
-        Call::Delete { id },
+        Call::lookup(id),
+        Call::write(id, 1),
+        Call::lookup(id),
+        Call::delete(id),
     ];
     lent.run(&list, tally)
 }

@@ -77,15 +77,19 @@ fn by_method(archive: &mut Archive, words: &[u32; CALL_WORDS]) -> [u32; REPLY_WO
         Call::Reweight { server, weight } => {
             archive.reweight(server, weight).map(|()| on_server(server))
         }
-        Call::Write { id, value } => archive.write(id, value).map(|written| Reply {
-            invalidated: written.invalidated,
-            ..on_server(written.server)
-        }),
-        Call::Delete { id } => archive.delete(id).map(|invalidated| Reply {
+        Call::Write { tenant, id, value } => {
+            archive.write(tenant, id, value).map(|written| Reply {
+                invalidated: written.invalidated,
+                ..on_server(written.server)
+            })
+        }
+        Call::Delete { tenant, id } => archive.delete(tenant, id).map(|invalidated| Reply {
             invalidated,
             ..Reply::default()
         }),
-        Call::Lookup { id } => return Reply::from_typed(archive.lookup(id)).words(),
+        Call::Lookup { tenant, id } => {
+            return Reply::from_typed(archive.lookup(tenant, id)).words()
+        }
         Call::None { .. } => return archive.call(words),
     };
     let reply = result.unwrap_or_else(|refusal| Reply {

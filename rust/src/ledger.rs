@@ -1,5 +1,6 @@
-//! The plain ledger of document 01: fed the capacity, the medium's length and the arguments of
-//! the calls, and nothing from a table or a medium. Everything is worked out anew from its lists.
+//! The plain ledger of document 01 with the tenants of document 02: fed the capacity, the medium's
+//! length and the arguments of the calls, and nothing from a table or a medium. Everything is
+//! worked out anew from its lists.
 
 use crate::archive::{Refusal, CONTENT_RANGE};
 use crate::calls::{Call, Reply};
@@ -40,9 +41,9 @@ impl Ledger {
         match call {
             Call::AddServer { weight } => self.add_server(weight),
             Call::Reweight { server, weight } => self.reweight(server, weight),
-            Call::Write { id, value } => self.write(id, value),
-            Call::Delete { id } => self.delete(id),
-            Call::Lookup { id } => self.lookup(id),
+            Call::Write { tenant, id, value } => self.write(tenant, id, value),
+            Call::Delete { tenant, id } => self.delete(tenant, id),
+            Call::Lookup { tenant, id } => self.lookup(tenant, id),
             Call::None { .. } => Reply::NO_CALL,
         }
     }
@@ -94,11 +95,11 @@ impl Ledger {
         }
     }
 
-    fn write(&mut self, id: u32, value: u32) -> Reply {
-        if id >= CONTENT_RANGE || value >= CONTENT_RANGE {
+    fn write(&mut self, tenant: u32, id: u32, value: u32) -> Reply {
+        if value >= CONTENT_RANGE {
             return Reply::refused(Refusal::OutOfRange);
         }
-        if let Some(refusal) = self.no_medium() {
+        if let Some(refusal) = not_asked(tenant, id).or(self.no_medium()) {
             return Reply::refused(refusal);
         }
         let server = self.write_server(id);
@@ -112,11 +113,8 @@ impl Ledger {
         }
     }
 
-    fn delete(&mut self, id: u32) -> Reply {
-        if id >= CONTENT_RANGE {
-            return Reply::refused(Refusal::OutOfRange);
-        }
-        if let Some(refusal) = self.no_medium() {
+    fn delete(&mut self, tenant: u32, id: u32) -> Reply {
+        if let Some(refusal) = not_asked(tenant, id).or(self.no_medium()) {
             return Reply::refused(refusal);
         }
         if self.standing(id).is_none() {
@@ -126,11 +124,8 @@ impl Ledger {
         Reply::default()
     }
 
-    fn lookup(&self, id: u32) -> Reply {
-        if id >= CONTENT_RANGE {
-            return Reply::refused(Refusal::OutOfRange);
-        }
-        if let Some(refusal) = self.no_medium() {
+    fn lookup(&self, tenant: u32, id: u32) -> Reply {
+        if let Some(refusal) = not_asked(tenant, id).or(self.no_medium()) {
             return Reply::refused(refusal);
         }
         match self.standing(id) {
@@ -197,4 +192,15 @@ impl Ledger {
         let exceeds = |&server: &usize| self.greatest[server].exceeds(draw(id, server));
         (lowest..self.weights.len()).filter(exceeds).count() as u32
     }
+}
+
+/// Why a tenant may not name an id at all: one of them is out of range, or the id is another's.
+fn not_asked(tenant: u32, id: u32) -> Option<Refusal> {
+    const IDS_OF_A_TENANT: u32 = 1 << 27;
+    if tenant > 7 || id >= CONTENT_RANGE {
+        return Some(Refusal::OutOfRange);
+    }
+    let first = tenant * IDS_OF_A_TENANT;
+    let own = first..first + IDS_OF_A_TENANT;
+    (!own.contains(&id)).then_some(Refusal::OtherTenant)
 }

@@ -1,6 +1,6 @@
 //! Random calls over a small archive, with arguments at the edges of their ranges.
 
-use crate::archive::CONTENT_RANGE;
+use crate::archive::{tenant_of, CONTENT_RANGE, TENANTS};
 use crate::calls::Call;
 use crate::placement::step;
 use crate::random::Random;
@@ -16,14 +16,39 @@ impl Shape {
     pub fn random(random: &mut Random, max_capacity: u32, max_servers: u32) -> Self {
         let capacity = random.between(1, max_capacity);
         let servers = random.between(1, max_servers);
-        let ids = (0..random.between(1, 12))
-            .map(|_| random.below(CONTENT_RANGE))
-            .collect();
-        Shape {
+        let mut shape = Shape {
             capacity,
             servers,
-            ids,
+            ids: Vec::new(),
+        };
+        for _ in 0..random.between(1, 12) {
+            let id = shape.new_id(random);
+            shape.ids.push(id);
         }
+        shape
+    }
+
+    /// Any id, one at an edge of a tenant's, or an earlier one with another tenant's top bits.
+    fn new_id(&self, random: &mut Random) -> u32 {
+        match random.below(8) {
+            0 => tenant_edge(random),
+            1 if !self.ids.is_empty() => {
+                let id = random.pick(&self.ids);
+                moved(id, random.below(TENANTS))
+            }
+            _ => random.below(CONTENT_RANGE),
+        }
+    }
+
+    /// The same with most ids given to one tenant, so that a batch of its finds more than one.
+    pub fn mostly_of_one(mut self, random: &mut Random) -> Self {
+        let tenant = random.below(TENANTS);
+        for id in &mut self.ids {
+            if !random.one_in(8) {
+                *id = moved(*id, tenant);
+            }
+        }
+        self
     }
 
     /// The medium's length: room for the servers, or now and then a little less or more.
@@ -61,21 +86,30 @@ impl Shape {
                 server: self.server(random),
                 weight: self.weight(random),
             },
-            7..=17 => Call::Write {
-                id: self.id(random),
-                value: value(random),
-            },
-            18..=21 => Call::Delete {
-                id: self.id(random),
-            },
-            22..=30 => Call::Lookup {
-                id: self.id(random),
-            },
+            7..=17 => {
+                let (tenant, id) = self.asked(random);
+                let value = value(random);
+                Call::Write { tenant, id, value }
+            }
+            18..=21 => {
+                let (tenant, id) = self.asked(random);
+                Call::Delete { tenant, id }
+            }
+            22..=30 => {
+                let (tenant, id) = self.asked(random);
+                Call::Lookup { tenant, id }
+            }
             _ => no_call(random),
         }
     }
 
-    fn weight(&self, random: &mut Random) -> u32 {
+    /// A caller's tenant and the id that it names.
+    fn asked(&self, random: &mut Random) -> (u32, u32) {
+        let id = self.id(random);
+        (caller(random, id), id)
+    }
+
+    pub fn weight(&self, random: &mut Random) -> u32 {
         match random.below(32) {
             0 => self.capacity + 1,
             1 => u32::MAX,
@@ -100,8 +134,43 @@ impl Shape {
             2 => CONTENT_RANGE - 1,
             3 => random.below(CONTENT_RANGE),
             4 | 5 => id_of_seed_0(random.below(self.servers)).unwrap_or(0),
+            6 => tenant_edge(random),
             _ => random.pick(&self.ids),
         }
+    }
+}
+
+/// The same id but for the bits that say whose it is.
+pub fn moved(id: u32, tenant: u32) -> u32 {
+    (tenant << 27) | (id % (1 << 27))
+}
+
+/// The first or the last id of a tenant.
+fn tenant_edge(random: &mut Random) -> u32 {
+    let first = random.below(TENANTS) << 27;
+    match random.one_in(2) {
+        true => first,
+        false => first + (1 << 27) - 1,
+    }
+}
+
+/// Who names an id: mostly its own tenant, now and then another or none of the eight. An id out of
+/// range has its tenant by all its bits, which is none of the eight, or by the low 30 alone.
+pub fn caller(random: &mut Random, id: u32) -> u32 {
+    match random.below(32) {
+        0 => no_tenant(random),
+        1 | 2 => random.below(TENANTS),
+        3 => tenant_of(id) ^ 1 << random.below(3),
+        part if part % 2 == 0 => tenant_of(id),
+        _ => tenant_of(id % CONTENT_RANGE),
+    }
+}
+
+/// A number that is no tenant's.
+pub fn no_tenant(random: &mut Random) -> u32 {
+    match random.below(6) {
+        0 => random.word() | TENANTS,
+        _ => random.pick(&[TENANTS, TENANTS + 1, 1 << 29, u32::MAX]),
     }
 }
 

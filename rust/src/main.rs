@@ -13,10 +13,12 @@ mod fractions;
 mod interface;
 mod ledger;
 mod lists;
+mod neighbours;
 #[cfg(test)]
 mod paper_tests;
 mod placement;
 mod random;
+mod rows;
 mod scene;
 mod scenes;
 mod suites;
@@ -94,7 +96,8 @@ fn test(options: &Options) -> ExitCode {
     let mut tally = Tally::default();
     let result = run_suites(seed, calls, &mut tally)
         .and_then(|()| run_interface(seed, calls, &mut tally))
-        .and_then(|()| run_batches(seed, batches, &mut tally));
+        .and_then(|()| run_batches(seed, batches, &mut tally))
+        .and_then(|()| run_neighbours(seed, calls, &mut tally));
     match result {
         Ok(()) => {
             report(&tally);
@@ -151,6 +154,14 @@ fn run_batches(seed: u64, batches: u64, tally: &mut Tally) -> Result<(), Differe
     Ok(())
 }
 
+fn run_neighbours(seed: u64, calls: u64, tally: &mut Tally) -> Result<(), Difference> {
+    let (name, asked) = ("pairs of histories with other neighbours", calls / 100);
+    let pair = neighbours::pair;
+    let ran = run_suite(name, pair, seed, asked, tally, |t| t.alike + t.parted)?;
+    println!("{name}: {ran}");
+    Ok(())
+}
+
 fn run_suites(seed: u64, calls: u64, tally: &mut Tally) -> Result<(), Difference> {
     for (name, suite, share) in suites::SUITES {
         let ran = run_suite(name, suite, seed, calls * share / 100, tally, |t| t.calls)?;
@@ -192,4 +203,12 @@ fn report(tally: &Tally) {
     {
         println!("ids of batches answered {number}: {met}");
     }
+    println!(
+        "pairs of histories accepted alike: {}, not alike: {}",
+        tally.alike, tally.parted
+    );
+    println!(
+        "calls compared in pairs: {}, ids of batches compared: {}",
+        tally.neighbours_calls, tally.neighbours_ids
+    );
 }

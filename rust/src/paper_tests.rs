@@ -1,7 +1,7 @@
-//! The known draws, the edges and the example of document 01, on the Rust implementation and the
-//! ledger alone.
+//! The known draws, the edges and the example of document 01 and the tenants of document 02, on
+//! the Rust implementation and the ledger alone.
 
-use crate::archive::{Refusal, Table, BLANK};
+use crate::archive::{tenant_of, Refusal, Table, BLANK};
 use crate::calls::{Call, Reply};
 use crate::ledger::Ledger;
 use crate::placement::{draw, round, step, write_server};
@@ -33,8 +33,9 @@ fn known_picks() {
 /// The lines of the example as calls and the numbers they print.
 fn example() -> [(Call, Reply); 10] {
     let id = 626_627_286;
-    let write = |value| Call::Write { id, value };
-    let lookup = Call::Lookup { id };
+    let tenant = 4;
+    let write = |value| Call::Write { tenant, id, value };
+    let lookup = Call::Lookup { tenant, id };
     let reply = |refusal, server, value, opened, invalidated| Reply {
         refusal,
         server,
@@ -55,7 +56,7 @@ fn example() -> [(Call, Reply); 10] {
         (reweight, reply(0, 0, 0, 0, 0)),
         (write(740), reply(0, 0, 0, 0, 1)),
         (lookup, reply(0, 0, 740, 2, 0)),
-        (Call::Delete { id }, reply(0, 0, 0, 0, 1)),
+        (Call::Delete { tenant, id }, reply(0, 0, 0, 0, 1)),
         (lookup, reply(8, 0, 0, 2, 0)),
     ]
 }
@@ -90,16 +91,49 @@ fn batch() {
     for (call, _) in example().into_iter().take(4) {
         table.run(&mut medium, call);
     }
-    assert_eq!(table.opens(&medium, id), [2]);
-    let answer = table.lookup_batch(&medium, &[id, 1 << 30, id]);
-    let batch = answer.expect("three ids");
-    assert_eq!(batch.order, [1, 0, 2]);
+    assert_eq!(table.opens(&medium, 4, id), [2]);
+    assert!(table.opens(&medium, 5, id).is_empty());
+    let answer = table.lookup_batch(&medium, 4, &[id, 1 << 30, id, 1]);
+    let batch = answer.expect("four ids");
+    assert_eq!(batch.order, [1, 3, 0, 2]);
     assert_eq!(batch.mounts, 1);
     assert_eq!(batch.replies[1], Reply::refused(Refusal::OutOfRange));
     assert_eq!((batch.replies[2].value, batch.replies[2].opened), (500, 1));
-    let refusal = |table: &Table| table.lookup_batch(&medium, &[id; 257]).err();
+    assert_eq!(batch.replies[3], Reply::refused(Refusal::OtherTenant));
+    let outside = table.lookup_batch(&medium, 8, &[id, 1 << 30]);
+    let outside = outside.expect("two ids");
+    assert_eq!(outside.replies, [Reply::refused(Refusal::OutOfRange); 2]);
+    assert_eq!((outside.order, outside.mounts), (vec![0, 1], 0));
+    let refusal = |table: &Table| table.lookup_batch(&medium, 4, &[id; 257]).err();
     assert_eq!(refusal(&table), Some(Refusal::OutOfRange));
     assert_eq!(refusal(&Table::ZERO), Some(Refusal::Unsound));
+}
+
+#[test]
+fn tenants() {
+    let known = [
+        (0, 0),
+        (134_217_727, 0),
+        (134_217_728, 1),
+        (626_627_286, 4),
+        (1_073_741_823, 7),
+    ];
+    for (id, tenant) in known {
+        assert_eq!(tenant_of(id), tenant);
+        let mut ledger = Ledger::new(1, 3);
+        let mut table = Table::start(1).expect("in range");
+        let mut medium = vec![BLANK; 3];
+        for caller in 0..9 {
+            let refusal = match caller {
+                8 => 2,
+                _ if caller != tenant => 11,
+                _ => 3,
+            };
+            let lookup = Call::Lookup { tenant: caller, id };
+            assert_eq!(table.run(&mut medium, lookup).refusal, refusal);
+            assert_eq!(ledger.enter(lookup).refusal, refusal);
+        }
+    }
 }
 
 #[test]
@@ -112,7 +146,7 @@ fn edges() {
         assert_eq!(table.add_server(&medium, 0), Ok(server));
     }
     assert_eq!(table.add_server(&medium, 0), Err(Refusal::TooManyServers));
-    let write = |id| Call::Write { id, value: 0 };
+    let write = |id| Call::write(id, 0);
     assert_eq!(table.run(&mut medium, write(1_073_741_824)).refusal, 2);
     assert_eq!(table.run(&mut medium, write(1_073_741_823)).refusal, 0);
     assert_eq!(table.run(&mut medium, write(1_073_741_823)).refusal, 6);

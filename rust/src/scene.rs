@@ -1,6 +1,6 @@
 //! One input that is measured, and its two sides.
 
-use crate::archive::{Table, BLANK};
+use crate::archive::{tenant_of, Table, BLANK};
 use crate::batch::MAX_IDS;
 use crate::calls::{self, encode, Call, CALL_WORDS, REFUSAL, REPLY_WORDS};
 use crate::placement;
@@ -82,9 +82,9 @@ impl Scene {
         Scene::new(work, medium, list.len() * REPLY_WORDS, list.len())
     }
 
-    /// Lookups, in batches against each alone.
+    /// Lookups of one tenant's ids, in batches against each alone.
     pub fn batches(table: &Table, medium: Vec<u32>, ids: &[u32]) -> Self {
-        let list: Vec<Call> = ids.iter().map(|&id| Call::Lookup { id }).collect();
+        let list: Vec<Call> = ids.iter().map(|&id| Call::lookup(id)).collect();
         let work = Work::Batches {
             table: table.words().to_vec(),
             calls: encode(&list, 0),
@@ -172,13 +172,14 @@ fn call_each(table: &mut [u32], calls: &[u32], medium: &mut [u32], replies: &mut
     calls.len() / CALL_WORDS
 }
 
-/// Ids by `archive_lookup_batch`, 256 at a time.
+/// Ids of the first one's tenant by `archive_lookup_batch`, 256 at a time.
 fn look_up_all(table: &[u32], medium: &[u32], ids: &[u32], replies: &mut [u32]) -> usize {
     let mut order = [0; MAX_IDS];
     let mut mounts = [0];
+    let tenant = tenant_of(ids[0]);
     let replies = replies.chunks_mut(REPLY_WORDS * MAX_IDS);
     for (ids, replies) in ids.chunks(MAX_IDS).zip(replies) {
-        proved::lookup_batch(table, medium, ids, replies, &mut order, &mut mounts);
+        proved::lookup_batch(table, medium, tenant, ids, replies, &mut order, &mut mounts);
     }
     ids.len()
 }

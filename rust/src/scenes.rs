@@ -2,6 +2,7 @@
 
 use crate::archive::{Table, BLANK, CONTENT_RANGE};
 use crate::calls::Call;
+use crate::lists::moved;
 use crate::placement::{write_server, MAX_CAPACITY};
 use crate::random::Random;
 use crate::scene::Scene;
@@ -183,18 +184,23 @@ fn lookups(servers: usize, hit: bool) -> Scene {
             if hit {
                 place(&mut random, &table, &mut medium, id);
             }
-            Call::Lookup { id }
+            Call::lookup(id)
         })
         .collect();
     Scene::resume(&table, medium, &list)
 }
 
-/// Full servers, and ids that stand anywhere on their write server, each at most once.
+/// Whose ids a batch looks up.
+const TENANT: u32 = 4;
+
+/// Full servers, and ids of one tenant that stand anywhere on their write server, each at most once.
 fn placed(servers: usize, entries: u32) -> (Table, Vec<u32>, Vec<u32>) {
     let mut random = Random::new(servers as u64);
     let (table, mut medium) = filled(&mut random, servers, entries, entries);
     let some = (entries * servers as u32 / 4).min(1_024);
-    let ids: Vec<u32> = (0..some).map(|_| fresh_id(&mut random, 1)).collect();
+    let ids: Vec<u32> = (0..some)
+        .map(|_| moved(fresh_id(&mut random, 1), TENANT))
+        .collect();
     for &id in &ids {
         place(&mut random, &table, &mut medium, id);
     }
@@ -205,7 +211,7 @@ fn placed(servers: usize, entries: u32) -> (Table, Vec<u32>, Vec<u32>) {
 /// Lookups that find, each alone.
 fn found(servers: usize, entries: u32) -> Scene {
     let (table, medium, ids) = placed(servers, entries);
-    let list: Vec<Call> = ids.into_iter().map(|id| Call::Lookup { id }).collect();
+    let list: Vec<Call> = ids.into_iter().map(Call::lookup).collect();
     Scene::calls(&table, medium, &list)
 }
 
@@ -225,8 +231,7 @@ fn rewrites(servers: usize) -> (Table, Vec<u32>, Vec<Call>) {
             for _ in 0..4 {
                 place(&mut random, &table, &mut medium, id);
             }
-            let value = random.below(CONTENT_RANGE);
-            Call::Write { id, value }
+            Call::write(id, random.below(CONTENT_RANGE))
         })
         .collect();
     (table, medium, list)
@@ -248,9 +253,9 @@ fn new_writes(servers: usize) -> Scene {
     let mut random = Random::new(servers as u64);
     let (table, medium) = filled(&mut random, servers, ENTRIES, 0);
     let list: Vec<Call> = (0..500)
-        .map(|_| Call::Write {
-            id: random.below(CONTENT_RANGE),
-            value: random.below(CONTENT_RANGE),
+        .map(|_| {
+            let id = random.below(CONTENT_RANGE);
+            Call::write(id, random.below(CONTENT_RANGE))
         })
         .collect();
     Scene::calls(&table, medium, &list)
@@ -294,16 +299,15 @@ fn mixed(servers: u32, capacity: u32) -> Scene {
         let id = random.pick(if part < writes { &ids } else { &written });
         list.push(if part < writes {
             written.push(id);
-            let value = random.below(CONTENT_RANGE);
-            Call::Write { id, value }
+            Call::write(id, random.below(CONTENT_RANGE))
         } else if part < writes + writes / 8 {
-            Call::Delete { id }
+            Call::delete(id)
         } else if part < writes + writes / 4 {
             let server = random.below(servers);
             let weight = random.below(capacity / 4 + 1);
             Call::Reweight { server, weight }
         } else {
-            Call::Lookup { id }
+            Call::lookup(id)
         });
     }
     Scene::replay(capacity, (3 * entries) as usize, &list)

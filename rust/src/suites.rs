@@ -1,12 +1,13 @@
 //! The kinds of lists that are compared.
 
-use crate::archive::{Table, BLANK, CONTENT_RANGE};
+use crate::archive::{tenant_of, Table, BLANK, CONTENT_RANGE, TENANTS};
 use crate::calls::{Call, TABLE_WORDS};
 use crate::differ::{run_blank, run_picks, run_replay, Difference, Encoded, Lent, Tally};
 use crate::fractions::{near_fraction, on_fraction};
-use crate::lists::Shape;
+use crate::lists::{no_tenant, Shape};
 use crate::placement::{MAX_CAPACITY, MAX_SERVERS};
 use crate::random::Random;
+use crate::rows;
 
 /// One list, or a few that belong together, from a generator of its own.
 pub type Suite = fn(&mut Random, &mut Tally) -> Result<(), Difference>;
@@ -170,7 +171,7 @@ fn many_servers(random: &mut Random, tally: &mut Tally) -> Result<(), Difference
     run_blank(shape.capacity, medium_len, &list, tally)
 }
 
-pub const EDGES: [u32; 14] = [
+pub const EDGES: [u32; 17] = [
     0,
     1,
     2,
@@ -181,6 +182,9 @@ pub const EDGES: [u32; 14] = [
     65_535,
     65_536,
     65_537,
+    (1 << 27) - 1,
+    1 << 27,
+    7 << 27,
     CONTENT_RANGE - 1,
     CONTENT_RANGE,
     1 << 31,
@@ -194,13 +198,29 @@ fn edges(random: &mut Random, tally: &mut Tally) -> Result<(), Difference> {
     let slack = random.below(3) as usize;
     let medium = vec![BLANK; 3 * capacity.min(65_537) as usize * servers + slack];
     let list: Vec<Call> = (0..1_000)
-        .map(|_| Call::from_parts(random.below(7), random.pick(&EDGES), random.pick(&EDGES)))
+        .map(|_| {
+            let subject = random.pick(&EDGES);
+            let tenant = edge_tenant(random, subject);
+            Call::from_parts(random.below(7), tenant, subject, random.pick(&EDGES))
+        })
         .collect();
     let cut = [random.below(18) as usize, random.below(18) as usize];
     let encoded = Encoded::new(&list).cut(cut[0], cut[1]);
     run_replay(capacity, &medium, &list, &encoded, tally)?;
+    for _ in 0..20 {
+        rows::in_order(random, tally)?;
+    }
     table_lengths(random, tally)?;
     pick_edges(random, tally)
+}
+
+/// The id's own tenant, any of the eight, or none.
+fn edge_tenant(random: &mut Random, id: u32) -> u32 {
+    match random.below(4) {
+        0 => random.below(TENANTS),
+        1 => no_tenant(random),
+        _ => tenant_of(id),
+    }
 }
 
 /// Tables lent with a word too few or too many.
@@ -211,7 +231,7 @@ fn table_lengths(random: &mut Random, tally: &mut Tally) -> Result<(), Differenc
         medium: vec![BLANK; 3],
     };
     let id = random.below(CONTENT_RANGE);
-    lent.run(&[Call::Write { id, value: 1 }, Call::Lookup { id }], tally)
+    lent.run(&[Call::write(id, 1), Call::lookup(id)], tally)
 }
 
 /// Picks over no weight, over too many, over one too great, and with too little room.

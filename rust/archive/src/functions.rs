@@ -20,6 +20,7 @@ extern "C" {
         table_words: usize,
         medium: *const u32,
         medium_words: usize,
+        tenant: u32,
         ids: *const u32,
         ids_words: usize,
         replies: *mut u32,
@@ -92,10 +93,11 @@ pub fn call(table: &mut [u32], medium: &mut [u32], call: &[u32], reply: &mut [u3
     }
 }
 
-/// Looks many ids up together; answers the refusal number of the list, or 0.
+/// Looks many ids up together for a tenant; answers the refusal number of the list, or 0.
 pub fn lookup_batch(
     table: &[u32],
     medium: &[u32],
+    tenant: u32,
     ids: &[u32],
     replies: &mut [u32],
     order: &mut [u32],
@@ -107,6 +109,7 @@ pub fn lookup_batch(
             table.len(),
             medium.as_ptr(),
             medium.len(),
+            tenant,
             ids.as_ptr(),
             ids.len(),
             replies.as_mut_ptr(),

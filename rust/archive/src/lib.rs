@@ -1,15 +1,20 @@
 //! A ticket archive on write-once media: the proved library, safe to call from Rust.
 //!
 //! ```
-//! use ticket_archive::{server_words, Archive, BLANK};
+//! use ticket_archive::{server_words, tenant_of, Archive, Refusal, BLANK};
 //!
 //! let mut medium = vec![BLANK; 2 * server_words(100)];
 //! let mut archive = Archive::start(100, &mut medium).unwrap();
 //! archive.add_server(60).unwrap();
 //! archive.add_server(40).unwrap();
-//! archive.write(1001, 250).unwrap();
-//! assert_eq!(archive.lookup(1001).unwrap().value, 250);
+//! let tenant = tenant_of(1001);
+//! archive.write(tenant, 1001, 250).unwrap();
+//! assert_eq!(archive.lookup(tenant, 1001).unwrap().value, 250);
+//! let other = archive.lookup(tenant + 1, 1001);
+//! assert_eq!(other.unwrap_err().refusal, Refusal::OtherTenant);
 //! ```
+//!
+//! Each id belongs to one of eight tenants ([`tenant_of`]), and a call that names an id says which tenant makes it.
 
 pub mod functions;
 mod words;
@@ -31,9 +36,10 @@ pub enum Refusal {
     NotFound = 8,
     ExceedsFree = 9,
     Corrupt = 10,
+    OtherTenant = 11,
 }
 
-const REFUSALS: [Refusal; 10] = [
+const REFUSALS: [Refusal; 11] = [
     Refusal::UnsoundTable,
     Refusal::OutOfRange,
     Refusal::NoSuchServer,
@@ -44,6 +50,7 @@ const REFUSALS: [Refusal; 10] = [
     Refusal::NotFound,
     Refusal::ExceedsFree,
     Refusal::Corrupt,
+    Refusal::OtherTenant,
 ];
 
 impl Refusal {
@@ -68,6 +75,7 @@ impl fmt::Display for Refusal {
             Refusal::NotFound => "the id is absent",
             Refusal::ExceedsFree => "the weight exceeds the server's free entries",
             Refusal::Corrupt => "the value word is damaged",
+            Refusal::OtherTenant => "the id belongs to another tenant",
         };
         out.write_str(text)
     }
@@ -169,9 +177,10 @@ impl<'m> Archive<'m> {
         reply
     }
 
-    fn run(&mut self, number: u32, subject: u32, amount: u32) -> [u32; REPLY_WORDS] {
+    fn run(&mut self, number: u32, tenant: u32, subject: u32, amount: u32) -> [u32; REPLY_WORDS] {
         let mut words = [0; CALL_WORDS];
         words[call::NUMBER] = number;
+        words[call::TENANT] = tenant;
         words[call::SUBJECT] = subject;
         words[call::AMOUNT] = amount;
         self.call(&words)
@@ -179,19 +188,19 @@ impl<'m> Archive<'m> {
 
     /// Adds a server; answers its number.
     pub fn add_server(&mut self, weight: u32) -> Result<u32, Refusal> {
-        let reply = self.run(call::ADD_SERVER, 0, weight);
+        let reply = self.run(call::ADD_SERVER, 0, 0, weight);
         told(reply[reply::REFUSAL])?;
         Ok(reply[reply::SERVER])
     }
 
     /// Sets a server's weight.
     pub fn reweight(&mut self, server: u32, weight: u32) -> Result<(), Refusal> {
-        told(self.run(call::REWEIGHT, server, weight)[reply::REFUSAL])
+        told(self.run(call::REWEIGHT, 0, server, weight)[reply::REFUSAL])
     }
 
-    /// Writes a value.
-    pub fn write(&mut self, id: u32, value: u32) -> Result<Written, Refusal> {
-        let reply = self.run(call::WRITE, id, value);
+    /// Writes the value of a tenant's id.
+    pub fn write(&mut self, tenant: u32, id: u32, value: u32) -> Result<Written, Refusal> {
+        let reply = self.run(call::WRITE, tenant, id, value);
         told(reply[reply::REFUSAL])?;
         Ok(Written {
             server: reply[reply::SERVER],
@@ -199,26 +208,27 @@ impl<'m> Archive<'m> {
         })
     }
 
-    /// Deletes an id; answers how many entries it invalidated.
-    pub fn delete(&mut self, id: u32) -> Result<u32, Refusal> {
-        let reply = self.run(call::DELETE, id, 0);
+    /// Deletes a tenant's id; answers how many entries it invalidated.
+    pub fn delete(&mut self, tenant: u32, id: u32) -> Result<u32, Refusal> {
+        let reply = self.run(call::DELETE, tenant, id, 0);
         told(reply[reply::REFUSAL])?;
         Ok(reply[reply::INVALIDATED])
     }
 
-    /// Looks an id up.
-    pub fn lookup(&mut self, id: u32) -> Result<Found, Missed> {
-        looked_up(&self.run(call::LOOKUP, id, 0))
+    /// Looks a tenant's id up.
+    pub fn lookup(&mut self, tenant: u32, id: u32) -> Result<Found, Missed> {
+        looked_up(&self.run(call::LOOKUP, tenant, id, 0))
     }
 
-    /// Looks up to 256 ids up together.
-    pub fn lookup_batch(&self, ids: &[u32]) -> Result<Batch, Refusal> {
+    /// Looks up to 256 ids up together for a tenant. An id of another tenant gets its own refusal.
+    pub fn lookup_batch(&self, tenant: u32, ids: &[u32]) -> Result<Batch, Refusal> {
         let mut replies = vec![0; REPLY_WORDS * ids.len()];
         let mut order = vec![0; ids.len()];
         let mut mounts = [0];
         told(functions::lookup_batch(
             &self.table,
             self.medium,
+            tenant,
             ids,
             &mut replies,
             &mut order,

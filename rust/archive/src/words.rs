@@ -1,7 +1,7 @@
 //! Calls and replies as words, as include/archive.h has them.
 
 /// The version of the interface that this crate is written for; `functions::abi` answers the library's own.
-pub const ABI: u32 = 1;
+pub const ABI: u32 = 2;
 
 /// How many words a table has.
 pub const TABLE_WORDS: usize = 1026;
@@ -32,6 +32,14 @@ pub const MAX_IDS: usize = 256;
 /// Ids and values are below this.
 pub const CONTENT_RANGE: u32 = 1 << 30;
 
+/// How many tenants there are, numbered from 0.
+pub const TENANTS: u32 = 8;
+
+/// The tenant that an id belongs to: the top three of its 30 bits. For what is no id it is no tenant.
+pub const fn tenant_of(id: u32) -> u32 {
+    id >> 27
+}
+
 /// The refusal number of a call that was carried out.
 pub const ACCEPTED: u32 = 0;
 
@@ -51,6 +59,7 @@ pub mod call {
 
     /// Which word of a call is which.
     pub const NUMBER: usize = 0;
+    pub const TENANT: usize = 1;
     pub const SUBJECT: usize = 2;
     pub const AMOUNT: usize = 3;
 }

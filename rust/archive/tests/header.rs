@@ -28,7 +28,7 @@ fn defined() -> Vec<(&'static str, u64)> {
 }
 
 /// The same by this crate, in the order of the header.
-const OURS: [(&str, u64); 35] = [
+const OURS: [(&str, u64); 38] = [
     ("ABI", ABI as u64),
     ("TABLE_WORDS", TABLE_WORDS as u64),
     ("CALL_WORDS", CALL_WORDS as u64),
@@ -38,12 +38,14 @@ const OURS: [(&str, u64); 35] = [
     ("MAX_CAPACITY", MAX_CAPACITY as u64),
     ("MAX_IDS", MAX_IDS as u64),
     ("CONTENT_RANGE", CONTENT_RANGE as u64),
+    ("TENANTS", TENANTS as u64),
     ("ADD_SERVER", call::ADD_SERVER as u64),
     ("REWEIGHT", call::REWEIGHT as u64),
     ("WRITE", call::WRITE as u64),
     ("DELETE", call::DELETE as u64),
     ("LOOKUP", call::LOOKUP as u64),
     ("CALL_NUMBER", call::NUMBER as u64),
+    ("CALL_TENANT", call::TENANT as u64),
     ("CALL_SUBJECT", call::SUBJECT as u64),
     ("CALL_AMOUNT", call::AMOUNT as u64),
     ("REPLY_REFUSAL", reply::REFUSAL as u64),
@@ -62,6 +64,7 @@ const OURS: [(&str, u64); 35] = [
     ("NOT_FOUND", Refusal::NotFound as u64),
     ("EXCEEDS_FREE", Refusal::ExceedsFree as u64),
     ("CORRUPT", Refusal::Corrupt as u64),
+    ("OTHER_TENANT", Refusal::OtherTenant as u64),
     ("SHORT", SHORT as u64),
     ("NO_CALL", NO_CALL as u64),
 ];
@@ -79,6 +82,15 @@ fn a_server_has_as_many_words() {
 }
 
 #[test]
+fn an_id_has_its_tenant() {
+    let line = "#define ARCHIVE_TENANT_OF(id) ((uint32_t)(id) >> 27)";
+    assert!(HEADER.lines().any(|other| other == line));
+    let ids = [0, (1 << 27) - 1, 1 << 27, 626_627_286, CONTENT_RANGE - 1];
+    assert_eq!(ids.map(tenant_of), [0, 0, 1, 4, TENANTS - 1]);
+    assert_eq!(tenant_of(CONTENT_RANGE), TENANTS);
+}
+
+#[test]
 fn the_library_has_the_numbers_of_the_crate() {
     assert_eq!(functions::abi(), ABI);
     assert_eq!(functions::table_words(), TABLE_WORDS);
@@ -86,10 +98,10 @@ fn the_library_has_the_numbers_of_the_crate() {
 
 #[test]
 fn every_refusal_has_its_number() {
-    let numbers: Vec<u32> = (0..=11)
+    let numbers: Vec<u32> = (0..=12)
         .chain([SHORT, NO_CALL])
         .filter_map(Refusal::from_number)
         .map(|refusal| refusal as u32)
         .collect();
-    assert_eq!(numbers, (1..=10).collect::<Vec<u32>>());
+    assert_eq!(numbers, (1..=11).collect::<Vec<u32>>());
 }
