@@ -5,7 +5,6 @@ use mathlib.Core.Path.{_≡_, refl, sym, ap, ap₂, _∙_}
 use mathlib.Core.Logic.{_≢_}
 use mathlib.Core.Bool.{Bool, true, false, not, _&&_}
 use mathlib.Core.List.{List}
-use mathlib.Core.Option.{Option, none, some}
 use native.Mathlib.Omega.{arith}
 use lib.ListN.{length, set, replicate, length-replicate}
 use lib.Seq.{length-sets}
@@ -13,17 +12,14 @@ use lib.Dec.{leb, eqb}
 use borrow.Author.Tests.{le-leb, lt-leb, leb-true, ltb-false, eqb-true, eqb-false, eq-eqb, ne-eqb}
 use Rattle.lists.specs.Below.{nth, setBelow}
 use Rattle.lists.proofs.Tests.{and-l, and-r, byBool}
-use Rattle.medium.specs.Word.{tagOf}
-use Rattle.medium.specs.Entry.{valueAt}
 use Rattle.table.specs.declared.Table.{Table}
 use Rattle.table.specs.Sound.{sound}
 use Rattle.table_words.specs.Words.{tableLength, tableFrom}
 use Rattle.replies.specs.declared.Reply.{Reply}
 use Rattle.replies.specs.Refusal.{firstOf}
-use Rattle.replies.specs.Reply.{replyBy}
-use Rattle.replies.proofs.Refusals.{settle-yes, settle-no, settle-either, passed}
-use Rattle.search.specs.Search.{Place, searchFor}
-use Rattle.lookup.specs.Lookup.{lookupRows, metReply, lookupReply}
+use Rattle.replies.proofs.Refusals.{settle-yes, settle-no, passed}
+use Rattle.lookup.specs.Lookup.{lookupReply}
+use Rattle.lookup.proofs.Plain.{lookup-plain}
 use Rattle.batch_answer.specs.declared.Batch.{Batch}
 use Rattle.batch_answer.specs.Answer.{order, batchBy, tooLong, refusedBatch, settledBatch}
 use Rattle.batch_answer.proofs.Filled.{filled-at}
@@ -70,23 +66,6 @@ module _ (n : ℕ) (table replies order mounts : List ℕ) where
         hasOrder = leb-true _ _ (and-l (leb n (length order)) _ three);
         hasMounts = leb-true _ _ (and-r (leb n (length order)) _ three);
       }
-
--- a lookup's reply carries no server and no invalidations
-record Plain (r : Reply) : Type 0 where
-  server : r .server ≡ 0
-  invalidated : r .invalidated ≡ 0
-
-met-plain : (capacity : ℕ) (m : List ℕ) (opened : ℕ) (o : Option Place) → Plain (metReply capacity m opened o)
-unfolding metReply
-met-plain capacity m opened none = record { server = refl; invalidated = refl }
-met-plain capacity m opened (some p) =
-    byBool (eqb (tagOf (nth m (valueAt capacity (p .server) (p .entry)))) 1)
-    (λ e. rw e (record { server = refl; invalidated = refl }))
-    (λ e. rw e (record { server = refl; invalidated = refl }))
-
-lookup-plain : (t : Table) (m : List ℕ) (tenant id : ℕ) → Plain (lookupReply t m tenant id)
-unfolding lookupReply replyBy
-lookup-plain t m tenant id = settle-either (lookupRows t m tenant id) _ _ Plain (λ _. met-plain (t .capacity) m _ (searchFor t m id .met)) (record { server = refl; invalidated = refl })
 
 -- the answer to a list that is not refused
 module _ (t : Table) (m : List ℕ) (tenant : ℕ) (ids : List ℕ) (b : Batch) (is : b ≡ batchReply t m tenant ids) where

@@ -21,7 +21,7 @@ use Rattle.history.specs.Machine.{State, after, begin}
 use Rattle.encoding.specs.Encoding.{callLength}
 use Rattle.dispatch.specs.ByNumber.{callAt, nextBy}
 use Rattle.call_words.specs.CallWords.{lent, fitsCall, afterCall}
-use Rattle.replay.proofs.Replaying.{start-arrays}
+use Rattle.servers.proofs.Starts.{start-arrays}
 use Rattle.call_words.proofs.Kept.{length-stored, lent-next}
 use Rattle.embed.specs.Sequence.{Runs, unanswered, afterCalls, callIn, joined, callsOf}
 

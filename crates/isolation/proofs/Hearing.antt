@@ -4,7 +4,7 @@ use Prim.Native.Nat.{ℕ}
 use mathlib.Core.Path.{_≡_, refl, sym, ap, ap₂, _∙_}
 use mathlib.Core.Bool.{Bool, true, false, cond, _&&_}
 use mathlib.Core.List.{List}
-use mathlib.Core.Option.{Option, none, some}
+use mathlib.Core.Option.{Option, none}
 use lib.ListN.{length}
 use lib.Dec.{leb, eqb}
 use borrow.Author.Tests.{eqb-true}
@@ -13,8 +13,6 @@ use Rattle.lists.proofs.Tests.{byBool, true-not-false}
 use Rattle.lists.proofs.Below.{countBelow-cong}
 use Rattle.tenants.specs.Tenant.{tenantOf}
 use Rattle.placement.specs.Rule.{readable}
-use Rattle.medium.specs.Word.{tagOf}
-use Rattle.medium.specs.Entry.{valueAt}
 use Rattle.medium.specs.Burn.{marksOver}
 use Rattle.table.specs.Parts.{usedOf, reads}
 use Rattle.replies.specs.Refusal.{Row, firstOf, settle}
@@ -22,8 +20,8 @@ use Rattle.replies.specs.declared.Reply.{Reply}
 use Rattle.replies.specs.Reply.{replyBy}
 use Rattle.replies.proofs.Refusals.{settle-either, settle-both}
 use Rattle.replies.proofs.Answers.{reply-number}
-use Rattle.search.specs.Search.{Place}
-use Rattle.lookup.specs.Lookup.{metReply, lookupReply}
+use Rattle.lookup.specs.Lookup.{lookupReply}
+use Rattle.lookup.proofs.Plain.{lookup-plain}
 use Rattle.deletion.specs.Deletion.{deleteRows, deleteMarks, deleteReply}
 use Rattle.planning.specs.WriteRows.{writeRows}
 use Rattle.writing.specs.Writing.{writeMarks, writeReply}
@@ -45,11 +43,6 @@ use Rattle.isolation.proofs.Entering.{Verdict, own-tenant, write-own, d
 no-loss : (rows : List Row) (done : Reply) → done .invalidated ≡ 0 → replyBy rows done .invalidated ≡ 0
 unfolding replyBy
 no-loss rows done z = settle-either rows done _ (λ (r : Reply). r .invalidated ≡ 0) (λ _. z) refl
-
-no-loss-met : (capacity : ℕ) (m : List ℕ) (opened : ℕ) (o : Option Place) → metReply capacity m opened o .invalidated ≡ 0
-unfolding metReply
-no-loss-met capacity m opened none = refl
-no-loss-met capacity m opened (some p) = byBool (eqb (tagOf (nth m (valueAt capacity (p .server) (p .entry)))) 1) (λ d. rw d) (λ d. rw d)
 
 loss : (rows : List Row) (done : Reply) → done .refusal ≡ 0 → replyBy rows done .invalidated ≡ cond (eqb (replyBy rows done .refusal) 0) (done .invalidated) 0
 unfolding replyBy settle
@@ -88,7 +81,7 @@ module _ (tenant : ℕ) (S : State) (L : Ledger) (A : Agrees S L) (R : Rules L (
   seen-lost (delete caller id) s ok by =
       loss (deleteRows (S .table) (S .medium) caller id) _ refl
       ∙ lost-alike (delete caller id) s ok by refl _ _ (λ z. marks-number id (own-tenant tenant caller id (delete-own L caller id z) s) 0 0 refl)
-  seen-lost (lookup caller id) s ok by = no-loss _ _ (no-loss-met _ _ _ _)
+  seen-lost (lookup caller id) s ok by = lookup-plain (S .table) (S .medium) caller id .invalidated
   seen-lost (batch caller ids) s ok by = refl
 
   -- a batch: each of its ids is one of the tenant's, or is refused alike in the view

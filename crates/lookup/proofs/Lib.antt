@@ -2,3 +2,4 @@ pub mod Passed
 mod Looked
 pub mod OpenedByValues
 pub mod ServerZero
+pub mod Plain

@@ -15,19 +15,15 @@ use Rattle.lists.proofs.Tests.{byBool}
 use Rattle.lists.proofs.Below.{replicate-all}
 use Rattle.medium.specs.Word.{blank}
 use Rattle.table.specs.declared.Table.{Table}
-use Rattle.table.proofs.Soundness.{Arrays, empty-arrays}
+use Rattle.table.proofs.Soundness.{Arrays}
 use Rattle.table_words.specs.Words.{tableLength, tableFrom, withTable}
 use Rattle.table_words.proofs.Lent.{stored-lent}
 use Rattle.replies.specs.Refusal.{firstOf}
-use Rattle.replies.specs.declared.Refusal.{Refusal}
-use Rattle.replies.specs.declared.Check.{Check}
-use Rattle.replies.specs.declared.Check.the-variants.{Accepted, Refused}
 use Rattle.replies.specs.declared.Reply.{Reply}
-use Rattle.replies.specs.Reply.{replyOfCheck}
-use Rattle.replies.proofs.Refusals.{settle-yes, settle-no, settle-either}
-use Rattle.replies.proofs.Answers.{number-not-zero, reply-number}
+use Rattle.replies.proofs.Refusals.{settle-yes, settle-no}
 use Rattle.server_rows.specs.ServerRows.{startRows}
-use Rattle.servers.specs.Servers.{startReply, startTable}
+use Rattle.servers.specs.Servers.{startTable}
+use Rattle.servers.proofs.Starts.{start-arrays}
 use Rattle.history.specs.Call.{Call, compared}
 use Rattle.history.specs.Machine.{State, after, begin}
 use Rattle.history.specs.Ledger.{freshLedger, ledgerAfter}
@@ -93,19 +89,6 @@ ledger-words capacity z m calls words n fits = record {
       let s = stored-all (replyAt (startState capacity m) calls) words n fits i l in
       rw (s .refusal, s .server, s .value, s .opened) (alike-at capacity z m b calls i);
 }
-
--- whether start accepted, by its answer
-start-number : (capacity : ℕ) → startReply capacity .refusal ≡ firstOf (startRows capacity)
-unfolding startReply
-start-number capacity = reply-number (startRows capacity) _ refl
-
-pub start-accepted : (capacity : ℕ) (c : Check) → c ≡ Accepted → replyOfCheck c ≡ startReply capacity → firstOf (startRows capacity) ≡ 0
-unfolding replyOfCheck
-start-accepted capacity c e f = sym (ap (λ (r : Reply). r .refusal) (sym (ap replyOfCheck e) ∙ f) ∙ start-number capacity)
-
-pub start-refused : (capacity : ℕ) (c : Check) (x : Refusal) → c ≡ Refused x → replyOfCheck c ≡ startReply capacity → firstOf (startRows capacity) ≢ 0
-unfolding replyOfCheck
-start-refused capacity c x e f z = number-not-zero x (ap (λ (r : Reply). r .refusal) (sym (ap replyOfCheck e) ∙ f) ∙ start-number capacity ∙ z)
 
 -- once i calls are run on a table lent as words
 pub record Replayed (words m calls replies : List ℕ) (i : ℕ) (words′ medium replies′ : List ℕ) : Type 0 where
@@ -213,10 +196,6 @@ module _ (capacity : ℕ) (m calls words : List ℕ) where
       (o ∙ sym (settle-yes (startRows capacity) _ 0 z), (rw b at d, (r, rw r (ledger-words capacity z m calls words n (omega arith)))))
 
 -- a started table, stored in front of words
-pub start-arrays : (capacity : ℕ) → Arrays (startTable capacity)
-unfolding startTable
-start-arrays capacity = settle-either (startRows capacity) _ _ Arrays (λ _. empty-arrays capacity) (empty-arrays 0)
-
 pub started-words : (capacity : ℕ) (m words words′ : List ℕ) (t : Table) → tableLength ≤ length words → t ≡ startTable capacity → words′ ≡ withTable words t
     → (lent words′ m ≡ startState capacity m) × (tableLength ≤ length words′)
 started-words capacity m words words′ t l e f =
@@ -225,7 +204,3 @@ started-words capacity m words words′ t l e f =
       ap (λ (u : Table). record { table = u; medium = m }) (ap tableFrom w ∙ stored-lent words (startTable capacity) l a),
       omega (arith, ap length w, length-stored words (startTable capacity) l a),
     )
-
-pub start-count : (capacity : ℕ) (t : Table) → t ≡ startTable capacity → t .count < 4294967296
-unfolding startTable
-start-count capacity t e = rw e (settle-either (startRows capacity) _ _ (λ (u : Table). u .count < 4294967296) (λ _. omega arith) (omega arith))

@@ -16,9 +16,9 @@ use Rattle.table.specs.declared.Table.{Table}
 use Rattle.replies.specs.Refusal.{firstOf}
 use Rattle.replies.specs.declared.Reply.{Reply}
 use Rattle.replies.proofs.Refusals.{settle-yes, settle-no}
-use Rattle.replies.proofs.Answers.{reply-number}
 use Rattle.server_rows.specs.ServerRows.{startRows}
 use Rattle.servers.specs.Servers.{startReply, startTable}
+use Rattle.servers.proofs.Starts.{start-number}
 use Rattle.letters.specs.Letter.{startLetter}
 use Rattle.printing.specs.Print.{printed}
 use Rattle.sheet_start.specs.declared.InUse.{InUse}
@@ -51,8 +51,7 @@ shown d e out out′ at next s′ n b k = rw e (n, (b, k))
 -- a start, by its reply: refused and accepted
 module _ (u : InUse) (m : List ℕ) (capacity : ℕ) (r x : Reply) (e : r ≡ x) (f : x ≡ startReply capacity) where
   number : r .refusal ≡ firstOf (startRows capacity)
-  unfolding startReply
-  number = ap (λ (y : Reply). y .refusal) (e ∙ f) ∙ reply-number (startRows capacity) _ refl
+  number = ap (λ (y : Reply). y .refusal) (e ∙ f) ∙ start-number capacity
 
   bytes : printed startLetter (startReply capacity .refusal) 0 0 ≡ printed startLetter (r .refusal) 0 0
   bytes = ap (λ (y : Reply). printed startLetter (y .refusal) 0 0) (sym (e ∙ f))

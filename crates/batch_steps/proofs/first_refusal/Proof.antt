@@ -1,9 +1,7 @@
 -- `batch_steps::first_refusal` meets its contract: a case for each of the definition's tests.
-use mathlib.Core.Path.{_≡_, sym, _∙_}
-use mathlib.Core.Bool.{true, false}
+use mathlib.Core.Path.{sym, _∙_}
 use borrow.Author.Needs.{needs}
 use borrow.Author.Tests.{eq-eqb, ne-eqb}
-use Rattle.tenants.specs.Tenant.{outOfRange, ofAnother}
 use Rattle.batch_steps.specs.Steps.{absentSoFar, firstRefusal}
 use Rattle.batch_steps.proofs.first_refusal.Statement.{statement}
 use Rattle.batch_steps.proofs.first_refusal.Tie as tie

@@ -1,7 +1,7 @@
 -- `embed::archive_start` meets its contract.
 use mathlib.Core.Path.{_∙_}
 use borrow.Author.Needs.{needs}
-use Rattle.replay.proofs.Replaying.{start-count}
+use Rattle.servers.proofs.Starts.{start-count}
 use Rattle.embed.proofs.Starting.{start-short, start-stored}
 use Rattle.embed.proofs.archive_start.Statement.{statement}
 use Rattle.embed.proofs.archive_start.Tie as tie

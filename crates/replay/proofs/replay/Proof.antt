@@ -4,7 +4,8 @@ use native.Mathlib.Omega.{arith}
 use lib.ListN.{length}
 use borrow.Author.Needs.{needs}
 use Rattle.table_words.specs.Words.{tableLength}
-use Rattle.replay.proofs.Replaying.{start-accepted, start-refused, start-count, started-words, refused-run, all-run}
+use Rattle.servers.proofs.Starts.{start-accepted, start-refused, start-count}
+use Rattle.replay.proofs.Replaying.{started-words, refused-run, all-run}
 use Rattle.replay.proofs.replay.Statement.{statement}
 use Rattle.replay.proofs.replay.Tie as tie
 
@@ -25,7 +26,7 @@ returns : tie.Need-returns
 returns c =
     let b = c .before .before in
     let a = S b .args in
-    refused-run (a .capacity) (a .medium .now) (a .calls .now) (a .replies .now) (start-refused (a .capacity) (b .start .result .answer) _ (c .enum-told .given .1) (b .start .ensures .0))
+    refused-run (a .capacity) (a .medium .now) (a .calls .now) (a .replies .now) (start-refused (a .capacity) (b .start .ensures .0) (c .enum-told .given .1))
 
 enum-told-2 : tie.Need-enum-told-2
 enum-told-2 c = search needs
@@ -71,7 +72,7 @@ returns-2 c =
     let a = S b .args in
     let s = started-words (a .capacity) (a .medium .now) _ _ _ (long w) (b .start .ensures .1) (t .store-table .ensures) in
     all-run (a .capacity) (a .medium .now) (a .calls .now) (a .replies .now) (n .room .result) _ _ _
-    (start-accepted (a .capacity) (b .start .result .answer) (n .before .enum-told2 .given .1) (b .start .ensures .0))
+    (start-accepted (a .capacity) (b .start .ensures .0) (n .before .enum-told2 .given .1))
     (n .room .ensures) (s .0) (r .run-calls .ensures .1 .0) (r .run-calls .ensures .1 .1)
 
 pub replay-spec : {M : Type 1} → statement M
