@@ -11,7 +11,7 @@ use lib.Dec.{leb, ltb, eqb}
 use borrow.Author.Tests.{leb-false, eqb-false}
 use Rattle.lists.specs.Below.{nth}
 use Rattle.lists.proofs.Tests.{byBool, true-not-false}
-use Rattle.placement.specs.Draw.{modulus, drawOf}
+use Rattle.draws.specs.Draw.{modulus, drawOf}
 use Rattle.placement.specs.Rule.{pick, writeServer}
 use Rattle.placement.proofs.Rules.{pick-cong}
 use Rattle.medium.specs.Word.{idWord, valueWord, replaced, deleted}

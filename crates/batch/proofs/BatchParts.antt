@@ -24,10 +24,11 @@ use Rattle.checks.proofs.Passed.{Ready, ready-accepted}
 use Rattle.batch_answer.specs.declared.Batch.{Batch}
 use Rattle.batch_answer.specs.Answer.{mounts, order, filled, batchBy, tooLong, refusedBatch, settledBatch}
 use Rattle.batch_answer.specs.Ends.{Ends}
+use Rattle.batch_begin.specs.declared.Parts.{Parts}
+use Rattle.batch_begin.specs.Begin.{firstRefusal, firstParts}
 use Rattle.batch_steps.specs.declared.Progress.{Progress}
-use Rattle.batch_steps.specs.declared.Parts.{Parts}
 use Rattle.batch.specs.Batch.{lookupOpens, openedAt, batchRows, longNumber, batchReply}
-use Rattle.batch_steps.specs.Steps.{firstRefusal, firstParts, progressAt, withParts, steppedAt, steppedAll}
+use Rattle.batch_steps.specs.Steps.{progressAt, withParts, steppedAt, steppedAll}
 use Rattle.batch_answer.proofs.Filled.{filled-is}
 use Rattle.batch_answer.proofs.Orders.{mounts-few, order-none}
 use Rattle.batch_answer.proofs.Tally.{tally-nowhere, tally-end, tally-low}

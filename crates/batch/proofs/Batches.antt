@@ -31,9 +31,10 @@ use Rattle.checks.specs.Ready.{readyRows, askedRows, short}
 use Rattle.lookup.specs.Lookup.{lookupRows, metReply, lookupReply}
 use Rattle.lookup.proofs.ServerZero.{ends-there}
 use Rattle.search.proofs.Searches.{search-cases, search-low, opened-are}
+use Rattle.batch_begin.specs.Begin.{absentSoFar, firstRefusal}
 use Rattle.batch_steps.specs.declared.Progress.{Progress}
 use Rattle.batch.specs.Batch.{lookupOpens}
-use Rattle.batch_steps.specs.Steps.{absentSoFar, firstRefusal, visited, stepped}
+use Rattle.batch_steps.specs.Steps.{visited, stepped}
 use Rattle.batch_steps.proofs.Stepping.{step-tested, step-settled}
 use Rattle.batch_answer.proofs.Tally.{Tally, tally-start, tally-none, tally-skip, tally-open, tally-above, tally-count}
 

@@ -42,7 +42,7 @@ pub fn lookup_batch(table: Table, medium: &[u32], tenant: u32, ids: &[u32]) -> B
     }
     let number = replies::check_number(checks::ready(shape, columns, medium, false, false));
     let servers = if number == 0 { table.count } else { 0 };
-    let mut parts = batch_steps::begin(number, tenant, ids);
+    let mut parts = batch_begin::begin(number, tenant, ids);
     let mut mounts: usize = 0;
     let mut k = servers;
     while 0 < k {

@@ -12,16 +12,16 @@ use lib.ListN.{set}
 use borrow.Author.Tests.{eq-eqb, ne-eqb}
 use Rattle.lists.specs.Below.{nth, highest, setBelow}
 use Rattle.lists.proofs.Below.{setBelow-above, setBelow-more}
+use Rattle.draws.specs.Draw.{modulus, drawOf}
 use Rattle.placement.specs.declared.Fraction.{Fraction}
-use Rattle.placement.specs.Draw.{modulus, drawOf}
 use Rattle.placement.specs.Fraction.{exceeds}
 use Rattle.medium.specs.Entry.{live}
 use Rattle.replies.specs.declared.Reply.{Reply}
 use Rattle.lookup.specs.Lookup.{metReply}
 use Rattle.search.proofs.Searches.{highest-at}
+use Rattle.batch_begin.specs.declared.Parts.{Parts}
 use Rattle.batch_steps.specs.declared.Newest.{Newest}
 use Rattle.batch_steps.specs.declared.Newest.the-variants.{Entry, Nothing}
-use Rattle.batch_steps.specs.declared.Parts.{Parts}
 use Rattle.batch_steps.specs.declared.Progress.{Progress}
 use Rattle.batch_steps.specs.Steps.{newestBy, visited, stepped, progressAt, withParts, steppedAt}
 

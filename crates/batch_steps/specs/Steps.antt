@@ -3,39 +3,23 @@ use Prim.Native.Nat.{ℕ, suc}
 use mathlib.Core.Bool.{cond, _&&_}
 use mathlib.Core.List.{List}
 use mathlib.Core.Option.{Option, none, some}
-use lib.ListN.{length, replicate}
+use lib.ListN.{length}
 use lib.Dec.{eqb}
-use Rattle.limits.specs.Limits.{maxIds}
 use Rattle.lists.specs.Below.{nth, highest, setBelow}
-use Rattle.tenants.specs.Tenant.{outOfRange, ofAnother}
+use Rattle.draws.specs.Draw.{modulus, drawOf}
 use Rattle.placement.specs.declared.Fraction.{Fraction}
-use Rattle.placement.specs.Draw.{modulus, drawOf}
 use Rattle.placement.specs.Fraction.{exceeds}
 use Rattle.medium.specs.Entry.{live}
 use Rattle.lookup.specs.Lookup.{metReply}
-use Rattle.batch_answer.specs.Answer.{filled}
+use Rattle.batch_begin.specs.declared.Parts.{Parts}
 use Rattle.batch_steps.specs.declared.Newest.{Newest}
 use Rattle.batch_steps.specs.declared.Newest.the-variants.{Entry, Nothing}
 use Rattle.batch_steps.specs.declared.Progress.{Progress}
-use Rattle.batch_steps.specs.declared.Parts.{Parts}
 
 -- what the search of one server answers
 unfoldable pub newestBy : Option ℕ → Newest
 newestBy none = Nothing
 newestBy (some j) = Entry j
-
--- the refusal of an id for which no entry was met yet: it is 8, absent, unless a test has refused the id already
-unfoldable pub absentSoFar : ℕ → ℕ
-absentSoFar number = cond (eqb number 0) 8 number
-
--- the refusal of an id before any server is opened. `number` is what the tests say of an id in range that is the caller's own; for
--- another id they differ by its range and its tenant alone, right after the table's soundness
-unfoldable pub firstRefusal : ℕ → ℕ → ℕ → ℕ
-firstRefusal number tenant id =
-    cond (eqb number 1) 1
-    (cond (outOfRange tenant id) 2
-    (cond (ofAnother tenant id) 11
-    (absentSoFar number)))
 
 -- server k is opened for an id, and `opened` is the number of servers opened with it; an entry there ends the search
 unfoldable pub visited : ℕ → List ℕ → ℕ → ℕ → Option ℕ → Progress
@@ -54,15 +38,6 @@ stepped read capacity used m id k p =
 -- the part of the id at position i
 abbrev pub progressAt : Parts → ℕ → Progress
 progressAt parts i = record { refusal = nth (parts .refusals) i; value = nth (parts .values) i; opened = nth (parts .opened) i; end = nth (parts .ends) i }
-
--- the parts of the first n ids before any server is opened
-unfoldable pub firstParts : ℕ → ℕ → List ℕ → ℕ → Parts
-firstParts number tenant ids n = record {
-  refusals = filled (λ i. firstRefusal number tenant (nth ids i)) n;
-  values = replicate maxIds 0;
-  opened = replicate maxIds 0;
-  ends = replicate maxIds 0;
-}
 
 -- the parts with the first n given by f, and the rest as they are
 unfoldable pub withParts : (ℕ → Progress) → ℕ → Parts → Parts

@@ -5,8 +5,8 @@ ghost use lib.ListN.{length};
 ghost use Rattle.limits.specs.Limits.{maxServers, maxIds};
 ghost use Rattle.lists.specs.Below.{nth, highest};
 ghost use Rattle.medium.specs.Entry.{live, Inside};
-ghost use Rattle.batch_steps.specs.Steps.{newestBy, firstRefusal, firstParts, stepped, steppedAll};
-use limits::MAX_IDS;
+ghost use Rattle.batch_steps.specs.Steps.{newestBy, stepped, steppedAll};
+use batch_begin::Parts;
 use placement::Fraction;
 
 // The newest entry of an id on a server: the highest-numbered live one.
@@ -15,59 +15,12 @@ enum Newest {
     Nothing,
 }
 
-// How far the lookup of one id in a batch is. Its refusal is 8 while no entry was met, and `end` is one more than the last server
-// opened for it, or 0.
+// How far the lookup of one id in a batch is: its number of each array of `Parts`.
 pub struct Progress {
     pub refusal: u32,
     pub value: u32,
     pub opened: u32,
     pub end: u32,
-}
-
-// How far the lookups of all ids are: each array has one number for each id, in the order of the ids.
-pub struct Parts {
-    pub refusals: [u32; MAX_IDS],
-    pub values: [u32; MAX_IDS],
-    pub opened: [u32; MAX_IDS],
-    pub ends: [u32; MAX_IDS],
-}
-
-// The refusal of an id before any server is opened, by what the tests say of an id in range that is the caller's own.
-fn first_refusal(number: u32, tenant: u32, id: u32) -> u32
-    ensures { λ r. ⌜ r ≡ firstRefusal number tenant id ⌝ }
-{
-    if number == 1 {
-        return 1;
-    }
-    if tenants::out_of_range(tenant, id) {
-        return 2;
-    }
-    if tenants::of_another(tenant, id) {
-        return 11;
-    }
-    if number == 0 {
-        return 8;
-    }
-    number
-}
-
-// Every id's part before any server is opened.
-pub fn begin(number: u32, tenant: u32, ids: &[u32]) -> Parts
-    requires { ⌜ length (now ids) ≤ maxIds ⌝ }
-    ensures { λ r. ⌜ r ≡ firstParts number tenant (now (ids .entry)) (length (now (ids .entry))) ⌝ }
-{
-    let mut parts = Parts {
-        refusals: [0; MAX_IDS],
-        values: [0; MAX_IDS],
-        opened: [0; MAX_IDS],
-        ends: [0; MAX_IDS],
-    };
-    let mut i: usize = 0;
-    while i < ids.len() {
-        parts.refusals[i] = first_refusal(number, tenant, ids[i]);
-        i += 1;
-    }
-    parts
 }
 
 // The highest-numbered live entry of an id on a server.

@@ -13,7 +13,7 @@ use lib.Dec.{ltb, eqb}
 use borrow.Author.Tests.{eqb-true, eqb-false, eq-eqb, ne-eqb}
 use Rattle.limits.specs.Limits.{contentRange}
 use Rattle.lists.proofs.Tests.{byBool}
-use Rattle.placement.specs.Draw.{modulus, drawOf}
+use Rattle.draws.specs.Draw.{modulus, drawOf}
 use Rattle.placement.specs.Rule.{pick, writeServer, readable}
 use Rattle.placement.proofs.Rules.{pick-cong, readable-cong}
 use Rattle.medium.specs.Entry.{serverAt, bears, live}

@@ -14,7 +14,7 @@ use Rattle.limits.specs.Limits.{contentRange}
 use Rattle.lists.specs.Below.{nth, allBelow, highest, orZero, upward, countBelow, total, setBelow}
 use Rattle.lists.proofs.Tests.{and-l, and-r}
 use Rattle.tenants.specs.Tenant.{tenantOf, outOfRange, ofAnother}
-use Rattle.placement.specs.Draw.{stepOf, nonzero, seedOf, xorLeft, xorRight, roundOf, drawOf}
+use Rattle.draws.specs.Draw.{stepOf, nonzero, seedOf, xorLeft, xorRight, roundOf, drawOf}
 use Rattle.placement.specs.Fraction.{exceeds, atLeast, raise}
 use Rattle.placement.specs.Rule.{shareOf, writeP, takes, pick, writeServer, readable}
 use Rattle.medium.specs.Word.{blank, deleted}

@@ -8,8 +8,8 @@ use native.Mathlib.Omega.{arith}
 use lib.Dec.{leb, ltb}
 use borrow.Author.Tests.{leb-false, ltb-false}
 use Rattle.lists.proofs.Tests.{byBool}
+use Rattle.draws.specs.Draw.{modulus, drawOf}
 use Rattle.placement.specs.declared.Fraction.{Fraction}
-use Rattle.placement.specs.Draw.{modulus, drawOf}
 use Rattle.placement.specs.Fraction.{raise}
 use Rattle.placement.specs.Rule.{writeP, takes, readable}
 use Rattle.placement.proofs.Fractions.{exceeds-grows, raise-is}

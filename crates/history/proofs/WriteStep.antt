@@ -8,7 +8,7 @@ use native.Mathlib.Omega.{arith}
 use lib.Dec.{leb, eqb}
 use borrow.Author.Tests.{eqb-true, eqb-false}
 use Rattle.lists.proofs.Tests.{byBool}
-use Rattle.placement.specs.Draw.{modulus, drawOf}
+use Rattle.draws.specs.Draw.{modulus, drawOf}
 use Rattle.placement.specs.Rule.{writeP, takes, readable}
 use Rattle.placement.proofs.Fractions.{exceeds-grows}
 use Rattle.placement.proofs.Rules.{writeServer-is}

@@ -3,7 +3,7 @@
 use mathlib.Core.Path.{refl}
 use Rattle.lists.specs.Below.{allBelow, someBelow, highest, orZero, upward, countBelow, total, setBelow}
 use Rattle.tenants.specs.Tenant.{tenantOf, outOfRange, ofAnother}
-use Rattle.placement.specs.Draw.{stepOf, nonzero, seedOf, xorLeft, xorRight, roundOf, drawOf}
+use Rattle.draws.specs.Draw.{stepOf, nonzero, seedOf, xorLeft, xorRight, roundOf, drawOf}
 use Rattle.placement.specs.Fraction.{exceeds, atLeast, raise}
 use Rattle.placement.specs.Rule.{shareOf, writeP, takes, pick, writeServer, readable}
 use Rattle.medium.specs.Entry.{serverAt, entryAt, bearsAt, live, blankRun}

@@ -9,9 +9,9 @@ use native.Mathlib.Omega.{arith}
 use lib.ListN.{length}
 use borrow.Author.Tests.{le-leb, eqb-false}
 use Rattle.lists.proofs.Below.{countBelow-less}
-use Rattle.placement.specs.Draw.{modulus, drawOf}
+use Rattle.draws.specs.Draw.{modulus, drawOf}
+use Rattle.draws.proofs.Draws.{draw<}
 use Rattle.placement.specs.Rule.{writeP, takes, readable}
-use Rattle.placement.proofs.Draws.{draw<}
 use Rattle.placement.proofs.Fractions.{exceeds-grows}
 use Rattle.placement.proofs.Rules.{zero-takes}
 use Rattle.table.specs.declared.Table.{Table}

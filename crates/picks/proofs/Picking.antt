@@ -11,7 +11,7 @@ use borrow.Author.Tests.{leb-true}
 use Rattle.lists.specs.Below.{nth, setBelow}
 use Rattle.lists.proofs.Tests.{and-l, and-r}
 use Rattle.lists.proofs.Below.{allBelow-out, highest-le}
-use Rattle.placement.specs.Draw.{modulus, drawOf}
+use Rattle.draws.specs.Draw.{modulus, drawOf}
 use Rattle.placement.specs.Rule.{writeP, takes, pick, writeServer, Bounded}
 use Rattle.picks.specs.Picks.{light, bounded, picksOf}
 

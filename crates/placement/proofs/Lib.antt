@@ -1,4 +1,3 @@
 mod Product
-pub mod Draws
 pub mod Fractions
 pub mod Rules

@@ -10,11 +10,11 @@ use borrow.Author.Tests.{eqb-false}
 use Rattle.lists.specs.Below.{orZero, total}
 use Rattle.lists.proofs.Tests.{byBool}
 use Rattle.lists.proofs.Below.{Highest, highest-is, highest-only, highest-cong, total-cong, total-le}
+use Rattle.draws.specs.Draw.{modulus, drawOf}
+use Rattle.draws.proofs.Draws.{draw<}
 use Rattle.placement.specs.declared.Fraction.{Fraction}
-use Rattle.placement.specs.Draw.{modulus, drawOf}
 use Rattle.placement.specs.Fraction.{exceeds}
 use Rattle.placement.specs.Rule.{shareOf, writeP, takes, pick, writeServer, readable, Picked}
-use Rattle.placement.proofs.Draws.{draw<}
 use Rattle.placement.proofs.Fractions.{one-exceeds}
 
 -- a fraction of at most 1

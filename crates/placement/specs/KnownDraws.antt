@@ -3,7 +3,7 @@ use Prim.Native.Nat.{ℕ, _+_, _%_}
 use mathlib.Core.Path.{_≡_, refl}
 use mathlib.Core.List.{List, [], _∷_}
 use Rattle.lists.specs.Below.{nth, highest, orZero, total}
-use Rattle.placement.specs.Draw.{modulus, stepOf, nonzero, seedOf, xorLeft, xorRight, roundOf, drawOf}
+use Rattle.draws.specs.Draw.{modulus, stepOf, nonzero, seedOf, xorLeft, xorRight, roundOf, drawOf}
 use Rattle.placement.specs.Fraction.{exceeds}
 use Rattle.placement.specs.Rule.{shareOf, writeP, takes, pick, writeServer}
 

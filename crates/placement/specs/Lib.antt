@@ -1,4 +1,3 @@
-pub mod Draw
 pub mod Fraction
 pub mod Rule
 pub mod KnownDraws

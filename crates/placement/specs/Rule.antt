@@ -8,8 +8,8 @@ use lib.Dec.{eqb}
 use lib.ListN.{length}
 use Rattle.limits.specs.Limits.{maxServers, maxCapacity}
 use Rattle.lists.specs.Below.{nth, highest, orZero, total}
+use Rattle.draws.specs.Draw.{modulus, drawOf}
 use Rattle.placement.specs.declared.Fraction.{Fraction}
-use Rattle.placement.specs.Draw.{modulus, drawOf}
 use Rattle.placement.specs.Fraction.{exceeds}
 
 -- server 0 has 1/1, a later one of weight 0 has 0/1, and any other has its weight over the sum of the weights up to it

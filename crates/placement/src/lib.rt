@@ -1,10 +1,10 @@
-// The published method on plain numbers: the draw of an id on a server, the comparison of a fraction with a draw,
-// WriteP, and the write server of an id. This crate knows no table and no medium.
+// The published rule on plain numbers: the comparison of a fraction with a draw, WriteP, and the write server of an id. This
+// crate knows no table and no medium.
 ghost use mathlib.Core.Path.{_≡_};
 ghost use Prim.Native.Nat.{_<_};
 ghost use Rattle.limits.specs.Limits.{maxServers};
 ghost use Rattle.lists.specs.Below.{nth, total};
-ghost use Rattle.placement.specs.Draw.{modulus, stepOf, seedOf, roundOf, drawOf};
+ghost use Rattle.draws.specs.Draw.{modulus, drawOf};
 ghost use Rattle.placement.specs.Fraction.{exceeds, atLeast};
 ghost use Rattle.placement.specs.Rule.{shareOf, writeServer, Bounded};
 
@@ -12,40 +12,6 @@ ghost use Rattle.placement.specs.Rule.{shareOf, writeServer, Bounded};
 pub struct Fraction {
     pub num: u32,
     pub den: u32,
-}
-
-// The step of a server. There are at most 256 servers.
-pub fn step(server: usize) -> u32
-    requires { ⌜ server < maxServers ⌝ }
-    ensures { λ r. ⌜ r ≡ stepOf server ⌝ }
-{
-    ((server + 1) * 2654435769 % 4294967296) as u32
-}
-
-// The seed of an id on a server, which is never 0.
-pub fn seed(id: u32, server: usize) -> u32
-    requires { ⌜ server < maxServers ⌝ }
-    ensures { λ r. ⌜ r ≡ seedOf id server ⌝ }
-{
-    let s = std::num::wrapping_add_u32(id, step(server));
-    if s == 0 { 1 } else { s }
-}
-
-// One round of xorshift.
-pub fn round(s: u32) -> u32
-    ensures { λ r. ⌜ r ≡ roundOf s ⌝ }
-{
-    let a = s ^ (s << 13);
-    let b = a ^ (a >> 17);
-    b ^ (b << 5)
-}
-
-// The draw of an id on a server.
-pub fn draw(id: u32, server: usize) -> u32
-    requires { ⌜ server < maxServers ⌝ }
-    ensures { λ r. ⌜ r ≡ drawOf id server ⌝ }
-{
-    round(round(round(seed(id, server))))
 }
 
 // Whether a fraction exceeds a draw's RAND, which is the draw over 2^32.
@@ -101,7 +67,7 @@ pub fn takes(f: Fraction, id: u32, server: usize) -> bool
     requires { ⌜ server < maxServers ⌝ }
     ensures { λ r. ⌜ r ≡ exceeds modulus f (drawOf id server) ⌝ }
 {
-    exceeds(f, draw(id, server))
+    exceeds(f, draws::draw(id, server))
 }
 
 // The sum of the first `count` weights.

@@ -8,7 +8,7 @@ use native.Mathlib.Omega.{arith}
 use lib.Dec.{leb, eqb}
 use borrow.Author.Tests.{leb-false, eqb-false, not-false}
 use Rattle.limits.specs.Limits.{contentRange}
-use Rattle.placement.specs.Draw.{modulus, drawOf}
+use Rattle.draws.specs.Draw.{modulus, drawOf}
 use Rattle.placement.specs.Rule.{Picked}
 use Rattle.placement.proofs.Rules.{writeServer-is}
 use Rattle.medium.specs.Entry.{entryAt, blankRun, AllInside}

@@ -10,7 +10,7 @@ use native.Mathlib.Omega.{arith}
 use lib.ListN.{length}
 use Rattle.lists.specs.Below.{highest}
 use Rattle.lists.proofs.Below.{highest-last}
-use Rattle.placement.specs.Draw.{modulus, drawOf}
+use Rattle.draws.specs.Draw.{modulus, drawOf}
 use Rattle.placement.specs.Fraction.{exceeds}
 use Rattle.placement.specs.Rule.{readable, takes}
 use Rattle.medium.specs.Entry.{entryAt, bearsAt, live, Inside, AllInside}

@@ -12,7 +12,7 @@ use borrow.Author.Tests.{le-leb, lt-leb, leb-true, leb-false, eqb-true, eqb-fals
 use Rattle.lists.specs.Below.{highest, orZero, downward, countBelow}
 use Rattle.lists.proofs.Tests.{byBool, true-not-false, and-i}
 use Rattle.lists.proofs.Below.{Highest, highest-is}
-use Rattle.placement.specs.Draw.{modulus, drawOf}
+use Rattle.draws.specs.Draw.{modulus, drawOf}
 use Rattle.placement.specs.Rule.{readable}
 use Rattle.placement.proofs.Rules.{takes-cong}
 use Rattle.medium.specs.Entry.{live}

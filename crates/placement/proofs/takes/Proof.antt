@@ -1,7 +1,7 @@
 -- `placement::takes` meets its contract: the comparison with the draw.
 use mathlib.Core.Path.{_∙_, ap}
 use borrow.Author.Needs.{needs}
-use Rattle.placement.specs.Draw.{modulus}
+use Rattle.draws.specs.Draw.{modulus}
 use Rattle.placement.specs.Fraction.{exceeds}
 use Rattle.placement.proofs.takes.Statement.{statement}
 use Rattle.placement.proofs.takes.Tie as tie

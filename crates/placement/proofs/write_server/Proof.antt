@@ -8,7 +8,7 @@ use lib.ListN.{length}
 use borrow.Author.Needs.{needs}
 use Rattle.lists.specs.Below.{nth, highest, orZero, total}
 use Rattle.lists.proofs.Below.{total-last, highest-last}
-use Rattle.placement.specs.Draw.{modulus, drawOf}
+use Rattle.draws.specs.Draw.{modulus, drawOf}
 use Rattle.placement.specs.Rule.{writeP, takes, pick, writeServer}
 use Rattle.placement.proofs.Rules.{takes-last}
 use Rattle.placement.proofs.write_server.Statement.{statement}

@@ -1,11 +1,11 @@
--- `vectors_calls::draws::picked` meets its contract: three weights in range are what the pick asks for.
+-- `vectors_calls::method::picked` meets its contract: three weights in range are what the pick asks for.
 use Prim.Native.Nat.{ℕ, zero, suc, _≤_, _<_}
 use mathlib.Core.List.{[], _∷_}
 use native.Mathlib.Omega.{arith}
 use borrow.Author.Needs.{needs}
 use Rattle.lists.specs.Below.{nth}
-use Rattle.vectors_calls.proofs.draws.picked.Statement.{statement}
-use Rattle.vectors_calls.proofs.draws.picked.Tie as tie
+use Rattle.vectors_calls.proofs.method.picked.Statement.{statement}
+use Rattle.vectors_calls.proofs.method.picked.Tie as tie
 
 light : (x y z : ℕ) → x ≤ 65536 → y ≤ 65536 → z ≤ 65536 → (k : ℕ) → k < 3 → nth (x ∷ y ∷ z ∷ []) k ≤ 65536
 light x y z a b c zero l = a

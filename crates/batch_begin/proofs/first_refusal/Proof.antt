@@ -1,10 +1,10 @@
--- `batch_steps::first_refusal` meets its contract: a case for each of the definition's tests.
+-- `batch_begin::first_refusal` meets its contract: a case for each of the definition's tests.
 use mathlib.Core.Path.{sym, _∙_}
 use borrow.Author.Needs.{needs}
 use borrow.Author.Tests.{eq-eqb, ne-eqb}
-use Rattle.batch_steps.specs.Steps.{absentSoFar, firstRefusal}
-use Rattle.batch_steps.proofs.first_refusal.Statement.{statement}
-use Rattle.batch_steps.proofs.first_refusal.Tie as tie
+use Rattle.batch_begin.specs.Begin.{absentSoFar, firstRefusal}
+use Rattle.batch_begin.proofs.first_refusal.Statement.{statement}
+use Rattle.batch_begin.proofs.first_refusal.Tie as tie
 
 returns : tie.Need-returns
 unfolding firstRefusal

@@ -1,9 +1,9 @@
--- `placement::step` meets its contract: 256 times the factor fits 64 bits.
+-- `draws::step` meets its contract: 256 times the factor fits 64 bits.
 use mathlib.Core.Path.{refl}
 use borrow.Author.Needs.{needs}
-use Rattle.placement.specs.Draw.{stepOf}
-use Rattle.placement.proofs.step.Statement.{statement}
-use Rattle.placement.proofs.step.Tie as tie
+use Rattle.draws.specs.Draw.{stepOf}
+use Rattle.draws.proofs.step.Statement.{statement}
+use Rattle.draws.proofs.step.Tie as tie
 
 add-result : tie.Need-add-result
 add-result c = search needs

@@ -1,4 +1,4 @@
--- `batch_steps::begin` meets its contract. The invariant: the refusals of the ids passed are stored, and nothing else.
+-- `batch_begin::begin` meets its contract. The invariant: the refusals of the ids passed are stored, and nothing else.
 use Prim.Native.Nat.{ℕ, _+_, _-_, _≤_}
 use mathlib.Core.Path.{_≡_, refl}
 use mathlib.Core.List.{List}
@@ -7,11 +7,11 @@ use lib.ListN.{length, set, replicate}
 use borrow.Author.Needs.{needs}
 use Rattle.lists.specs.Below.{nth, setBelow}
 use Rattle.lists.proofs.Below.{setBelow-more}
-use Rattle.batch_steps.specs.declared.Parts.{Parts}
 use Rattle.batch_answer.specs.Answer.{filled}
-use Rattle.batch_steps.specs.Steps.{firstRefusal, firstParts}
-use Rattle.batch_steps.proofs.begin.Statement.{statement}
-use Rattle.batch_steps.proofs.begin.Tie as tie
+use Rattle.batch_begin.specs.declared.Parts.{Parts}
+use Rattle.batch_begin.specs.Begin.{firstRefusal, firstParts}
+use Rattle.batch_begin.proofs.begin.Statement.{statement}
+use Rattle.batch_begin.proofs.begin.Tie as tie
 
 -- one refusal more
 stored : (number tenant : ℕ) (ids : List ℕ) (n : ℕ) (parts : Parts) (refusal : ℕ) → parts ≡ firstParts number tenant ids n → refusal ≡ firstRefusal number tenant (nth ids n)

@@ -6,7 +6,7 @@ use native.Mathlib.Nat.{div-le-self}
 use lib.Dec.{eqb}
 use lib.Bits.{xor-lt}
 use Rattle.lists.proofs.Tests.{byBool}
-use Rattle.placement.specs.Draw.{modulus, stepOf, nonzero, seedOf, xorLeft, xorRight, roundOf, drawOf}
+use Rattle.draws.specs.Draw.{modulus, stepOf, nonzero, seedOf, xorLeft, xorRight, roundOf, drawOf}
 
 left< : (n s : ℕ) → s < modulus → xorLeft n s < modulus
 unfolding xorLeft

@@ -1,11 +1,11 @@
--- `placement::seed` meets its contract: the wrapped sum, or 1 where it is 0.
+-- `draws::seed` meets its contract: the wrapped sum, or 1 where it is 0.
 use Prim.Native.Nat.{_+_, _%_}
 use mathlib.Core.Path.{_≡_}
 use borrow.Author.Needs.{needs}
 use borrow.Author.Tests.{eq-eqb, ne-eqb}
-use Rattle.placement.specs.Draw.{modulus, stepOf, nonzero, seedOf}
-use Rattle.placement.proofs.seed.Statement.{statement}
-use Rattle.placement.proofs.seed.Tie as tie
+use Rattle.draws.specs.Draw.{modulus, stepOf, nonzero, seedOf}
+use Rattle.draws.proofs.seed.Statement.{statement}
+use Rattle.draws.proofs.seed.Tie as tie
 
 step-requires : tie.Need-step-requires
 step-requires c κs = search needs

@@ -1,8 +1,8 @@
--- `vectors_calls::draws::rounds` ends: the loop counts up to n.
+-- `vectors_calls::method::rounds` ends: the loop counts up to n.
 use Prim.Native.Nat.{_≤_, _-_}
 use borrow.Author.Needs.{needs}
-use Rattle.vectors_calls.proofs.draws.rounds.Statement.{statement}
-use Rattle.vectors_calls.proofs.draws.rounds.Tie as tie
+use Rattle.vectors_calls.proofs.method.rounds.Statement.{statement}
+use Rattle.vectors_calls.proofs.method.rounds.Tie as tie
 
 abbrev Inv-loop : tie.InvT-loop
 Inv-loop seed n s₀ i₀ s i = i ≤ n

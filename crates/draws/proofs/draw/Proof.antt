@@ -1,8 +1,8 @@
--- `placement::draw` meets its contract: three rounds over the seed.
+-- `draws::draw` meets its contract: three rounds over the seed.
 use borrow.Author.Needs.{needs}
-use Rattle.placement.specs.Draw.{drawOf}
-use Rattle.placement.proofs.draw.Statement.{statement}
-use Rattle.placement.proofs.draw.Tie as tie
+use Rattle.draws.specs.Draw.{drawOf}
+use Rattle.draws.proofs.draw.Statement.{statement}
+use Rattle.draws.proofs.draw.Tie as tie
 
 seed-requires : tie.Need-seed-requires
 seed-requires c κs = search needs

@@ -9,7 +9,7 @@ fn rounds(seed: u32, n: u32) -> u32 {
     let mut s = seed;
     let mut i: u32 = 0;
     while i < n {
-        s = placement::round(s);
+        s = draws::round(s);
         i += 1;
     }
     s
@@ -27,9 +27,9 @@ fn picked(first: u32, second: u32, third: u32) -> u64
 // for the pick among three servers of these weights.
 fn number(letter: u8, a: u32, b: u32, c: u32) -> u64 {
     match letter {
-        b'p' => placement::step((a % 256) as usize) as u64,
-        b's' => placement::seed(a, (b % 256) as usize) as u64,
-        b'd' => placement::draw(a, (b % 256) as usize) as u64,
+        b'p' => draws::step((a % 256) as usize) as u64,
+        b's' => draws::seed(a, (b % 256) as usize) as u64,
+        b'd' => draws::draw(a, (b % 256) as usize) as u64,
         b'r' => rounds(a, b) as u64,
         _ => picked(a % 65537, b % 65537, c % 65537),
     }
