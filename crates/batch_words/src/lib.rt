@@ -73,10 +73,18 @@ pub fn lookup_batch(
     order: &mut [u32],
     mounts: &mut [u32],
 ) -> u32
-    ensures number { λ r. ⌜ r ≡ afterBatch (now (table .entry)) (now (medium .entry)) tenant (now (ids .entry)) (now (replies .entry)) (now (order .entry)) (now (mounts .entry)) .number ⌝ }
-    ensures replies { λ _. ⌜ now (replies .exit) ≡ afterBatch (now (table .entry)) (now (medium .entry)) tenant (now (ids .entry)) (now (replies .entry)) (now (order .entry)) (now (mounts .entry)) .replies ⌝ }
-    ensures order { λ _. ⌜ now (order .exit) ≡ afterBatch (now (table .entry)) (now (medium .entry)) tenant (now (ids .entry)) (now (replies .entry)) (now (order .entry)) (now (mounts .entry)) .order ⌝ }
-    ensures mounts { λ _. ⌜ now (mounts .exit) ≡ afterBatch (now (table .entry)) (now (medium .entry)) tenant (now (ids .entry)) (now (replies .entry)) (now (order .entry)) (now (mounts .entry)) .mounts ⌝ }
+    ensures number { λ r. ⌜ r
+        ≡ afterBatch (now (table .entry)) (now (medium .entry)) tenant (now (ids .entry)) (now (replies .entry)) (now (order .entry))
+        (now (mounts .entry)) .number ⌝ }
+    ensures replies { λ _. ⌜ now (replies .exit)
+        ≡ afterBatch (now (table .entry)) (now (medium .entry)) tenant (now (ids .entry)) (now (replies .entry)) (now (order .entry))
+        (now (mounts .entry)) .replies ⌝ }
+    ensures order { λ _. ⌜ now (order .exit)
+        ≡ afterBatch (now (table .entry)) (now (medium .entry)) tenant (now (ids .entry)) (now (replies .entry)) (now (order .entry))
+        (now (mounts .entry)) .order ⌝ }
+    ensures mounts { λ _. ⌜ now (mounts .exit)
+        ≡ afterBatch (now (table .entry)) (now (medium .entry)) tenant (now (ids .entry)) (now (replies .entry)) (now (order .entry))
+        (now (mounts .entry)) .mounts ⌝ }
 {
     let n = ids.len();
     if !fits(table, n, replies, order, mounts) {

@@ -57,7 +57,8 @@ fn run_on(
 // Counts the entry of an accepted write as used on its server.
 fn count(words: &mut [u32], number: u32, reply: Reply)
     requires { ⌜ tableLength ≤ length (now words) ⌝ }
-    requires { ⌜ (number ≡ writeNumber → reply .refusal ≡ 0 → (reply .server < maxServers) × (nth (columnFrom (now words) usedOffset) (reply .server) < maxCapacity)) ⌝ }
+    requires { ⌜ (number ≡ writeNumber → reply .refusal ≡ 0
+        → (reply .server < maxServers) × (nth (columnFrom (now words) usedOffset) (reply .server) < maxCapacity)) ⌝ }
     ensures { λ _. ⌜ now (words .exit) ≡ withColumn (now (words .entry)) usedOffset (usedAfter (columnFrom (now (words .entry)) usedOffset) number reply) ⌝ }
 {
     dispatch::count_write(&mut words[USED_OFFSET..NUMERATORS_OFFSET], number, reply);
@@ -74,7 +75,8 @@ pub fn run(
 ) -> Reply
     requires { ⌜ tableLength ≤ length (now table) ⌝ }
     ensures reply { λ r. ⌜ r ≡ replyTo (lent (now (table .entry)) (now (medium .entry))) (callOf number tenant subject amount) ⌝ }
-    ensures table { λ _. ⌜ now (table .exit) ≡ withTable (now (table .entry)) (nextBy (lent (now (table .entry)) (now (medium .entry))) (callOf number tenant subject amount) .table) ⌝ }
+    ensures table { λ _. ⌜ now (table .exit)
+        ≡ withTable (now (table .entry)) (nextBy (lent (now (table .entry)) (now (medium .entry))) (callOf number tenant subject amount) .table) ⌝ }
     ensures medium { λ _. ⌜ now (medium .exit) ≡ nextBy (lent (now (table .entry)) (now (medium .entry))) (callOf number tenant subject amount) .medium ⌝ }
 {
     if number < WRITE {

@@ -63,8 +63,10 @@ pub fn run_in<'a>(
 ) -> Reply
     requires { ⌜ Whole columns ⌝ }
     requires { ⌜ (number ≢ addServerNumber) × (number ≢ reweightNumber) ⌝ }
-    ensures reply { λ r. ⌜ r ≡ replyTo (record { table = tableOf shape (columns .entry); medium = now (medium .entry) }) (callOf number tenant subject amount) ⌝ }
-    ensures medium { λ _. ⌜ now (medium .exit) ≡ nextBy (record { table = tableOf shape (columns .entry); medium = now (medium .entry) }) (callOf number tenant subject amount) .medium ⌝ }
+    ensures reply { λ r. ⌜ r
+        ≡ replyTo (record { table = tableOf shape (columns .entry); medium = now (medium .entry) }) (callOf number tenant subject amount) ⌝ }
+    ensures medium { λ _. ⌜ now (medium .exit)
+        ≡ nextBy (record { table = tableOf shape (columns .entry); medium = now (medium .entry) }) (callOf number tenant subject amount) .medium ⌝ }
 {
     match number {
         WRITE => replies::write_reply(writing::write_in(
@@ -103,9 +105,12 @@ pub fn count_write(used: &mut [u32], number: u32, reply: Reply)
 // Runs add_server or reweight, which take the table by value and have no tenant; 0 is no call.
 pub fn run_change(table: Table, medium: &mut [u32], number: u32, subject: u32, amount: u32) -> Ran
     requires { ⌜ number < writeNumber ⌝ }
-    ensures reply { λ r. ⌜ ((tenant : ℕ) → r .reply ≡ replyTo (record { table = table; medium = now (medium .entry) }) (callOf number tenant subject amount)) ⌝ }
-    ensures table { λ r. ⌜ ((tenant : ℕ) → r .table ≡ nextBy (record { table = table; medium = now (medium .entry) }) (callOf number tenant subject amount) .table) ⌝ }
-    ensures medium { λ _. ⌜ ((tenant : ℕ) → now (medium .exit) ≡ nextBy (record { table = table; medium = now (medium .entry) }) (callOf number tenant subject amount) .medium) ⌝ }
+    ensures reply { λ r. ⌜ ((tenant : ℕ) → r .reply
+        ≡ replyTo (record { table = table; medium = now (medium .entry) }) (callOf number tenant subject amount)) ⌝ }
+    ensures table { λ r. ⌜ ((tenant : ℕ) → r .table
+        ≡ nextBy (record { table = table; medium = now (medium .entry) }) (callOf number tenant subject amount) .table) ⌝ }
+    ensures medium { λ _. ⌜ ((tenant : ℕ) → now (medium .exit)
+        ≡ nextBy (record { table = table; medium = now (medium .entry) }) (callOf number tenant subject amount) .medium) ⌝ }
 {
     match number {
         ADD_SERVER => from_changed(servers::add_server(table, medium, amount)),

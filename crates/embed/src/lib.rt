@@ -73,7 +73,8 @@ pub extern "C" fn archive_replay(
 ) -> usize
     ensures number { λ r. ⌜ r ≡ runs capacity (now (calls .entry)) (now (replies .entry)) ⌝ }
     ensures words { λ r. ⌜ now (medium .exit) ≡ after (startState capacity (now (medium .entry))) (callsBelow (now (calls .entry)) r) .medium ⌝ }
-    ensures replies { λ r. ⌜ now (replies .exit) ≡ withReplies (replyAt (startState capacity (now (medium .entry))) (now (calls .entry))) r (now (replies .entry)) ⌝ }
+    ensures replies { λ r. ⌜ now (replies .exit)
+        ≡ withReplies (replyAt (startState capacity (now (medium .entry))) (now (calls .entry))) r (now (replies .entry)) ⌝ }
     ensures ledger { λ r. ⌜ LedgerWords capacity (now (medium .entry)) (now (calls .entry)) r (now (replies .exit)) ⌝ }
 {
     replay::replay(capacity, calls, medium, replies)
@@ -88,9 +89,11 @@ pub extern "C" fn archive_resume(
     replies: &mut [u32],
 ) -> usize
     ensures number { λ r. ⌜ r ≡ resumes (now (table .entry)) (now (calls .entry)) (now (replies .entry)) ⌝ }
-    ensures table { λ r. ⌜ now (table .exit) ≡ withTable (now (table .entry)) (after (lent (now (table .entry)) (now (medium .entry))) (callsBelow (now (calls .entry)) r) .table) ⌝ }
+    ensures table { λ r. ⌜ now (table .exit)
+        ≡ withTable (now (table .entry)) (after (lent (now (table .entry)) (now (medium .entry))) (callsBelow (now (calls .entry)) r) .table) ⌝ }
     ensures words { λ r. ⌜ now (medium .exit) ≡ after (lent (now (table .entry)) (now (medium .entry))) (callsBelow (now (calls .entry)) r) .medium ⌝ }
-    ensures replies { λ r. ⌜ now (replies .exit) ≡ withReplies (replyAt (lent (now (table .entry)) (now (medium .entry))) (now (calls .entry))) r (now (replies .entry)) ⌝ }
+    ensures replies { λ r. ⌜ now (replies .exit)
+        ≡ withReplies (replyAt (lent (now (table .entry)) (now (medium .entry))) (now (calls .entry))) r (now (replies .entry)) ⌝ }
 {
     replay::resume(table, calls, medium, replies)
 }
@@ -99,7 +102,9 @@ pub extern "C" fn archive_resume(
 #[no_mangle]
 pub extern "C" fn archive_picks(weights: &[u32], ids: &[u32], servers: &mut [u32]) -> usize
     ensures number { λ r. ⌜ r ≡ picksOf (now (weights .entry)) (now (ids .entry)) (now (servers .entry)) ⌝ }
-    ensures servers { λ r. ⌜ now (servers .exit) ≡ setBelow (λ i. writeServer (nth (now (weights .entry))) (length (now (weights .entry))) (nth (now (ids .entry)) i)) r (now (servers .entry)) ⌝ }
+    ensures servers { λ r. ⌜ now (servers .exit)
+        ≡ setBelow (λ i. writeServer (nth (now (weights .entry))) (length (now (weights .entry))) (nth (now (ids .entry)) i)) r
+        (now (servers .entry)) ⌝ }
 {
     picks::picks(weights, ids, servers)
 }
@@ -115,10 +120,18 @@ pub extern "C" fn archive_lookup_batch(
     order: &mut [u32],
     mounts: &mut [u32],
 ) -> u32
-    ensures number { λ r. ⌜ r ≡ afterBatch (now (table .entry)) (now (medium .entry)) tenant (now (ids .entry)) (now (replies .entry)) (now (order .entry)) (now (mounts .entry)) .number ⌝ }
-    ensures replies { λ _. ⌜ now (replies .exit) ≡ afterBatch (now (table .entry)) (now (medium .entry)) tenant (now (ids .entry)) (now (replies .entry)) (now (order .entry)) (now (mounts .entry)) .replies ⌝ }
-    ensures order { λ _. ⌜ now (order .exit) ≡ afterBatch (now (table .entry)) (now (medium .entry)) tenant (now (ids .entry)) (now (replies .entry)) (now (order .entry)) (now (mounts .entry)) .order ⌝ }
-    ensures mounts { λ _. ⌜ now (mounts .exit) ≡ afterBatch (now (table .entry)) (now (medium .entry)) tenant (now (ids .entry)) (now (replies .entry)) (now (order .entry)) (now (mounts .entry)) .mounts ⌝ }
+    ensures number { λ r. ⌜ r
+        ≡ afterBatch (now (table .entry)) (now (medium .entry)) tenant (now (ids .entry)) (now (replies .entry)) (now (order .entry))
+        (now (mounts .entry)) .number ⌝ }
+    ensures replies { λ _. ⌜ now (replies .exit)
+        ≡ afterBatch (now (table .entry)) (now (medium .entry)) tenant (now (ids .entry)) (now (replies .entry)) (now (order .entry))
+        (now (mounts .entry)) .replies ⌝ }
+    ensures order { λ _. ⌜ now (order .exit)
+        ≡ afterBatch (now (table .entry)) (now (medium .entry)) tenant (now (ids .entry)) (now (replies .entry)) (now (order .entry))
+        (now (mounts .entry)) .order ⌝ }
+    ensures mounts { λ _. ⌜ now (mounts .exit)
+        ≡ afterBatch (now (table .entry)) (now (medium .entry)) tenant (now (ids .entry)) (now (replies .entry)) (now (order .entry))
+        (now (mounts .entry)) .mounts ⌝ }
 {
     batch_words::lookup_batch(table, medium, tenant, ids, replies, order, mounts)
 }

@@ -26,7 +26,8 @@ pub fn invalidate<'a>(
     requires { ⌜ AllInside (shape .capacity) (shape .count) (nth (column columns 1)) (now medium) ⌝ }
     requires { ⌜ content < contentRange ⌝ }
     ensures count { λ r. ⌜ r ≡ length (marksFrom (tableOf shape (columns .entry)) (now (medium .entry)) id from) ⌝ }
-    ensures words { λ _. ⌜ now (medium .exit) ≡ burnAll (now (medium .entry)) (invalidations content (marksFrom (tableOf shape (columns .entry)) (now (medium .entry)) id from)) ⌝ }
+    ensures words { λ _. ⌜ now (medium .exit)
+        ≡ burnAll (now (medium .entry)) (invalidations content (marksFrom (tableOf shape (columns .entry)) (now (medium .entry)) id from)) ⌝ }
 {
     let capacity = shape.capacity;
     let count = shape.count;

@@ -83,7 +83,8 @@ pub fn invalidate_server(
     requires { ⌜ used ≤ capacity ⌝ }
     requires { ⌜ content < contentRange ⌝ }
     ensures count { λ r. ⌜ r ≡ length (marksOn capacity used (now (medium .entry)) id server) ⌝ }
-    ensures words { λ _. ⌜ now (medium .exit) ≡ burnAll (now (medium .entry)) (invalidations content (marksOn capacity used (now (medium .entry)) id server)) ⌝ }
+    ensures words { λ _. ⌜ now (medium .exit)
+        ≡ burnAll (now (medium .entry)) (invalidations content (marksOn capacity used (now (medium .entry)) id server)) ⌝ }
 {
     let mut n: usize = 0;
     let mut j: usize = 0;

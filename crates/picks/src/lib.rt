@@ -31,7 +31,9 @@ fn are_bounded(weights: &[u32]) -> bool
 // weight, more than 256 or one above 65,536.
 pub fn picks(weights: &[u32], ids: &[u32], servers: &mut [u32]) -> usize
     ensures number { λ r. ⌜ r ≡ picksOf (now (weights .entry)) (now (ids .entry)) (now (servers .entry)) ⌝ }
-    ensures servers { λ r. ⌜ now (servers .exit) ≡ setBelow (λ i. writeServer (nth (now (weights .entry))) (length (now (weights .entry))) (nth (now (ids .entry)) i)) r (now (servers .entry)) ⌝ }
+    ensures servers { λ r. ⌜ now (servers .exit)
+        ≡ setBelow (λ i. writeServer (nth (now (weights .entry))) (length (now (weights .entry))) (nth (now (ids .entry)) i)) r
+        (now (servers .entry)) ⌝ }
 {
     if !are_bounded(weights) {
         return 0;

@@ -27,7 +27,8 @@ pub fn plan_write<'a>(
 ) -> Plan
     requires { ⌜ Whole columns ⌝ }
     ensures number { λ r. ⌜ planNumber r ≡ firstOf (writeRows (tableOf shape (columns .entry)) (now (medium .entry)) tenant id value) ⌝ }
-    ensures server { λ r. ⌜ planServer r ≡ settle (writeRows (tableOf shape (columns .entry)) (now (medium .entry)) tenant id value) (target (tableOf shape (columns .entry)) id) 0 ⌝ }
+    ensures server { λ r. ⌜ planServer r
+        ≡ settle (writeRows (tableOf shape (columns .entry)) (now (medium .entry)) tenant id value) (target (tableOf shape (columns .entry)) id) 0 ⌝ }
 {
     let capacity = shape.capacity;
     let count = shape.count;

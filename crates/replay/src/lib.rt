@@ -22,9 +22,11 @@ use table_words::TABLE_LENGTH;
 fn run_calls(table: &mut [u32], calls: &[u32], medium: &mut [u32], replies: &mut [u32], n: usize)
     requires { ⌜ tableLength ≤ length (now table) ⌝ }
     requires { ⌜ (callLength * n ≤ length (now calls)) × (replyLength * n ≤ length (now replies)) ⌝ }
-    ensures table { λ _. ⌜ now (table .exit) ≡ withTable (now (table .entry)) (after (lent (now (table .entry)) (now (medium .entry))) (callsBelow (now (calls .entry)) n) .table) ⌝ }
+    ensures table { λ _. ⌜ now (table .exit)
+        ≡ withTable (now (table .entry)) (after (lent (now (table .entry)) (now (medium .entry))) (callsBelow (now (calls .entry)) n) .table) ⌝ }
     ensures words { λ _. ⌜ now (medium .exit) ≡ after (lent (now (table .entry)) (now (medium .entry))) (callsBelow (now (calls .entry)) n) .medium ⌝ }
-    ensures replies { λ _. ⌜ now (replies .exit) ≡ withReplies (replyAt (lent (now (table .entry)) (now (medium .entry))) (now (calls .entry))) n (now (replies .entry)) ⌝ }
+    ensures replies { λ _. ⌜ now (replies .exit)
+        ≡ withReplies (replyAt (lent (now (table .entry)) (now (medium .entry))) (now (calls .entry))) n (now (replies .entry)) ⌝ }
 {
     let end = CALL_LENGTH * n;
     let mut at: usize = 0;
@@ -53,7 +55,8 @@ fn zero_words() -> [u32; TABLE_LENGTH]
 pub fn replay(capacity: u32, calls: &[u32], medium: &mut [u32], replies: &mut [u32]) -> usize
     ensures number { λ r. ⌜ r ≡ runs capacity (now (calls .entry)) (now (replies .entry)) ⌝ }
     ensures words { λ r. ⌜ now (medium .exit) ≡ after (startState capacity (now (medium .entry))) (callsBelow (now (calls .entry)) r) .medium ⌝ }
-    ensures replies { λ r. ⌜ now (replies .exit) ≡ withReplies (replyAt (startState capacity (now (medium .entry))) (now (calls .entry))) r (now (replies .entry)) ⌝ }
+    ensures replies { λ r. ⌜ now (replies .exit)
+        ≡ withReplies (replyAt (startState capacity (now (medium .entry))) (now (calls .entry))) r (now (replies .entry)) ⌝ }
     ensures ledger { λ r. ⌜ LedgerWords capacity (now (medium .entry)) (now (calls .entry)) r (now (replies .exit)) ⌝ }
 {
     let begun = servers::start(capacity);
@@ -71,9 +74,11 @@ pub fn replay(capacity: u32, calls: &[u32], medium: &mut [u32], replies: &mut [u
 // Runs encoded calls on a table lent as 1,026 words, and stores the table back. Where there are fewer words, it runs none.
 pub fn resume(table: &mut [u32], calls: &[u32], medium: &mut [u32], replies: &mut [u32]) -> usize
     ensures number { λ r. ⌜ r ≡ resumes (now (table .entry)) (now (calls .entry)) (now (replies .entry)) ⌝ }
-    ensures table { λ r. ⌜ now (table .exit) ≡ withTable (now (table .entry)) (after (lent (now (table .entry)) (now (medium .entry))) (callsBelow (now (calls .entry)) r) .table) ⌝ }
+    ensures table { λ r. ⌜ now (table .exit)
+        ≡ withTable (now (table .entry)) (after (lent (now (table .entry)) (now (medium .entry))) (callsBelow (now (calls .entry)) r) .table) ⌝ }
     ensures words { λ r. ⌜ now (medium .exit) ≡ after (lent (now (table .entry)) (now (medium .entry))) (callsBelow (now (calls .entry)) r) .medium ⌝ }
-    ensures replies { λ r. ⌜ now (replies .exit) ≡ withReplies (replyAt (lent (now (table .entry)) (now (medium .entry))) (now (calls .entry))) r (now (replies .entry)) ⌝ }
+    ensures replies { λ r. ⌜ now (replies .exit)
+        ≡ withReplies (replyAt (lent (now (table .entry)) (now (medium .entry))) (now (calls .entry))) r (now (replies .entry)) ⌝ }
 {
     if table.len() < TABLE_LENGTH {
         return 0;

@@ -51,7 +51,8 @@ fn run_by_value(
 ) -> Ran
     ensures reply { λ r. ⌜ r .reply ≡ replyTo (record { table = table; medium = now (medium .entry) }) (callOf number tenant subject amount) ⌝ }
     ensures table { λ r. ⌜ r .table ≡ nextBy (record { table = table; medium = now (medium .entry) }) (callOf number tenant subject amount) .table ⌝ }
-    ensures medium { λ _. ⌜ now (medium .exit) ≡ nextBy (record { table = table; medium = now (medium .entry) }) (callOf number tenant subject amount) .medium ⌝ }
+    ensures medium { λ _. ⌜ now (medium .exit)
+        ≡ nextBy (record { table = table; medium = now (medium .entry) }) (callOf number tenant subject amount) .medium ⌝ }
 {
     if number < WRITE {
         return dispatch::run_change(table, medium, number, subject, amount);
@@ -83,9 +84,13 @@ pub fn run_call(
     at: usize,
 ) -> AfterLine
     requires { ⌜ at + longestLine ≤ length (now out) ⌝ }
-    ensures next { λ r. ⌜ r .next ≡ at + length (callRun (sheetOf in_use (now (medium .entry))) (sheetOf in_use (now (medium .entry)) .table) number subject amount .bytes) ⌝ }
-    ensures bytes { λ _. ⌜ now (out .exit) ≡ sets (now (out .entry)) at (callRun (sheetOf in_use (now (medium .entry))) (sheetOf in_use (now (medium .entry)) .table) number subject amount .bytes) ⌝ }
-    ensures sheet { λ r. ⌜ sheetOf (r .in_use) (now (medium .exit)) ≡ callRun (sheetOf in_use (now (medium .entry))) (sheetOf in_use (now (medium .entry)) .table) number subject amount .sheet ⌝ }
+    ensures next { λ r. ⌜ r .next
+        ≡ at + length (callRun (sheetOf in_use (now (medium .entry))) (sheetOf in_use (now (medium .entry)) .table) number subject amount .bytes) ⌝ }
+    ensures bytes { λ _. ⌜ now (out .exit)
+        ≡ sets (now (out .entry)) at
+        (callRun (sheetOf in_use (now (medium .entry))) (sheetOf in_use (now (medium .entry)) .table) number subject amount .bytes) ⌝ }
+    ensures sheet { λ r. ⌜ sheetOf (r .in_use) (now (medium .exit))
+        ≡ callRun (sheetOf in_use (now (medium .entry))) (sheetOf in_use (now (medium .entry)) .table) number subject amount .sheet ⌝ }
 {
     if !in_use.started {
         return ask(in_use, out, at);
