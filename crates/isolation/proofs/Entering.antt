@@ -19,7 +19,7 @@ use Rattle.history.proofs.Entering.{entered}
 use Rattle.history.proofs.Agree.{ledger-numbered, same-address}
 use Rattle.history.proofs.Run.{Agrees, step}
 use Rattle.isolation.specs.Seen.{sees, supposed, verdict}
-use Rattle.isolation.proofs.View.{eventsOf, fitted, view, shownL, accepts, enterV, last-own}
+use Rattle.isolation.proofs.View.{eventsOf, trimmed, view, shownL, accepts, enterV, last-own}
 
 -- `ok` is the call's verdict, where that is supposed
 abbrev pub Verdict : State → Call → Bool → Type 0
@@ -57,15 +57,15 @@ module _ (tenant : ℕ) (L : Ledger) where
   viewed c e = record { reply = shownL c (e .reply); ledger = view tenant (e .ledger) }
 
   reply-view : (id : ℕ) (o : Option Version) → lastWriteReply L id o ≡ lastWriteReply (view tenant L) id o
-  unfolding lastWriteReply openedFrom fitted
+  unfolding lastWriteReply openedFrom trimmed
   reply-view id none = refl
   reply-view id (some x) = refl
 
   -- an accepted call that is seen enters the same in the view
   seen-done : (c : Call) → sees tenant c ≡ true → firstOf (rowsOf L c) ≡ 0
       → let done = doneOf (view tenant L) c in
-      viewed c (doneOf L c) ≡ record { reply = shownL c (done .reply); ledger = fitted (done .ledger) (done .ledger .events) }
-  unfolding sees viewed rowsOf doneOf fitted withServerL withWeightL withEvent targetL eventsOf
+      viewed c (doneOf L c) ≡ record { reply = shownL c (done .reply); ledger = trimmed (done .ledger) (done .ledger .events) }
+  unfolding sees viewed rowsOf doneOf trimmed withServerL withWeightL withEvent targetL eventsOf
   seen-done (addServer weight) s z = refl
   seen-done (reweight server weight) s z = refl
   seen-done (write caller id value) s z = rw (eq-eqb (tenantOf id) tenant (own-tenant tenant caller id (write-own L caller id value z) s))
@@ -78,7 +78,7 @@ module _ (tenant : ℕ) (L : Ledger) where
 
   -- one that is not seen enters nothing there
   unseen-done : (c : Call) → sees tenant c ≡ false → firstOf (rowsOf L c) ≡ 0 → view tenant (doneOf L c .ledger) ≡ view tenant L
-  unfolding sees rowsOf doneOf fitted withEvent eventsOf
+  unfolding sees rowsOf doneOf trimmed withEvent eventsOf
   unseen-done (addServer weight) s z = absurd (true-not-false refl s)
   unseen-done (reweight server weight) s z = absurd (true-not-false refl s)
   unseen-done (write caller id value) s z = rw (other-tenant tenant caller id (write-own L caller id value z) s)
@@ -100,12 +100,12 @@ module _ (tenant : ℕ) (S : State) (L : Ledger) (A : Agrees S L) where
   long-enough = le-ltb (L .words) (wordsFor L (L .servers)) (omega (arith, A .words, A .holds .long, same-address A (S .table .count) (L .servers) (A .count)))
 
   long-view : shortL K ≡ false
-  unfolding shortL fitted
+  unfolding shortL trimmed
   long-view = le-ltb (wordsFor L (L .servers)) (wordsFor L (L .servers)) (omega arith)
 
   -- a delete, a lookup or a batch has the same refusal on the view
   asked-view : (caller id : ℕ) (outside : Bool) → firstOf (askedRowsL L caller id outside) ≡ firstOf (askedRowsL K caller id outside)
-  unfolding askedRowsL fitted
+  unfolding askedRowsL trimmed
   asked-view caller id outside = rw (long-enough, long-view)
 
   pub lookup-view : (caller id : ℕ) → firstOf (lookupRowsL L caller id) ≡ firstOf (lookupRowsL K caller id)
@@ -113,7 +113,7 @@ module _ (tenant : ℕ) (S : State) (L : Ledger) (A : Agrees S L) where
   lookup-view caller id = asked-view caller id false
 
   rows-view : (c : Call) → sees tenant c ≡ true → supposed c ≡ false → firstOf (rowsOf L c) ≡ firstOf (rowsOf K c)
-  unfolding sees supposed rowsOf deleteRowsL fitted
+  unfolding sees supposed rowsOf deleteRowsL trimmed
   rows-view (addServer weight) s q = absurd (true-not-false refl q)
   rows-view (reweight server weight) s q = absurd (true-not-false refl q)
   rows-view (write caller id value) s q = absurd (true-not-false refl q)

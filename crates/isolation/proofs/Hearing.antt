@@ -36,7 +36,7 @@ use Rattle.history.proofs.Run.{Agrees, step}
 use Rattle.history.proofs.LiveRule.{Rules, table-ruled}
 use Rattle.isolation.specs.Seen.{sees, supposed, verdict, shown, toCall, toBatch, hears}
 use Rattle.isolation.proofs.LiveOn.{liveOn, length-over}
-use Rattle.isolation.proofs.View.{eventsOf, fitted, view, shownL, accepts, enterV, liveFrom, lostV, whole, replyV, hearsV, live-own, last-own}
+use Rattle.isolation.proofs.View.{eventsOf, trimmed, view, shownL, accepts, enterV, liveFrom, lostV, whole, replyV, hearsV, live-own, last-own}
 use Rattle.isolation.proofs.Entering.{Verdict, own-tenant, write-own, delete-own, lookup-own, viewed, lookup-view, number, accepts-view, seen-enters}
 
 -- the number of invalidated entries in a reply
@@ -62,7 +62,7 @@ module _ (tenant : ℕ) (S : State) (L : Ledger) (A : Agrees S L) (R : Rules L (
   -- the marks of an id of the tenant
   marks-number : (id : ℕ) → tenantOf id ≡ tenant → (from fromL : ℕ) → from ≡ fromL
       → length (marksOver (S .table .capacity) (usedOf (S .table)) (S .medium) id (λ k. leb from k && reads (S .table) id k) (S .table .count)) ≡ liveFrom K id fromL
-  unfolding liveFrom fitted
+  unfolding liveFrom trimmed
   marks-number id own from fromL e =
       let p : (ℕ → Bool) = λ k. leb fromL k && readable (L .greatest) id k in
       ap length (same-marks A id _ p (λ k l. ap₂ (λ (j : ℕ) (b : Bool). leb j k && b) e (same-reads A id k l)))
@@ -72,7 +72,7 @@ module _ (tenant : ℕ) (S : State) (L : Ledger) (A : Agrees S L) (R : Rules L (
       ∙ ap (countBelow (λ k. p k && liveOn (eventsOf tenant (L .events)) id k)) (A .count)
 
   seen-lost : (c : Call) → sees tenant c ≡ true → (ok : Bool) → Verdict S c ok → reply S c .invalidated ≡ lostV K c (accepts K c ok)
-  unfolding sees verdict reply lostV doneOf rowsOf addServerReply reweightReply writeReply deleteReply lookupReply writeMarks deleteMarks targetL fitted
+  unfolding sees verdict reply lostV doneOf rowsOf addServerReply reweightReply writeReply deleteReply lookupReply writeMarks deleteMarks targetL trimmed
   seen-lost (addServer weight) s ok by = no-loss _ _ refl
   seen-lost (reweight server weight) s ok by = no-loss _ _ refl
   seen-lost (write caller id value) s ok by =
@@ -86,17 +86,17 @@ module _ (tenant : ℕ) (S : State) (L : Ledger) (A : Agrees S L) (R : Rules L (
 
   -- a batch: each of its ids is one of the tenant's, or is refused alike in the view
   own-opens : (caller id k : ℕ) → eqb caller tenant ≡ true → opensL L caller id k ≡ opensL K caller id k
-  unfolding opensL fitted
+  unfolding opensL trimmed
   own-opens caller id k s = settle-both (lookupRowsL L caller id) (lookupRowsL K caller id) (lookup-view tenant S L A caller id) (_≡_ {A = Bool}) _ _ false false
       (λ z. ap (λ (o : Option Version). leb (lowestL o) k && readable (L .greatest) id k) (sym (last-own tenant id (own-tenant tenant caller id (lookup-own L caller id z) s) (L .events))))
       refl
 
   own-lookup : (caller id : ℕ) → eqb caller tenant ≡ true → lookupL L caller id .reply ≡ lookupL K caller id .reply
-  unfolding sees supposed enter rowsOf doneOf viewed shownL enterV accepts enterBy settle fitted
+  unfolding sees supposed enter rowsOf doneOf viewed shownL enterV accepts enterBy settle trimmed
   own-lookup caller id s = ap (λ (e : Entered). e .reply) (seen-enters tenant S L A (lookup caller id) s true (λ q. absurd (true-not-false q refl)))
 
   seen-batch : (caller : ℕ) (ids : List ℕ) → eqb caller tenant ≡ true → batchL L caller ids ≡ batchL K caller ids
-  unfolding batchL openedAtL fitted
+  unfolding batchL openedAtL trimmed
   seen-batch caller ids s = batch-cong ids (batchRowsL ids) (batchRowsL ids) refl (openedAtL L caller ids) (openedAtL K caller ids) (L .servers) (L .servers) refl
       (λ i k l. own-opens caller (nth ids i) k s) _ _ _ _ _ _
       (λ i.

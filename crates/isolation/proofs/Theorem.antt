@@ -14,7 +14,7 @@ use Rattle.history.proofs.Run.{Agrees, begin-agrees, step}
 use Rattle.history.proofs.LiveRule.{Rules, begin-rules, next-rules}
 use Rattle.isolation.specs.Seen.{sees, supposed, verdict, Heard, hears, seen, verdicts, heard}
 use Rattle.isolation.specs.Isolation.{Isolation}
-use Rattle.isolation.proofs.View.{fitted, view, nextOf, restOf, foretold}
+use Rattle.isolation.proofs.View.{trimmed, view, nextOf, restOf, foretold}
 use Rattle.isolation.proofs.Entering.{Verdict, viewed, unseen, seen-enters}
 use Rattle.isolation.proofs.Hearing.{seen-heard}
 
@@ -47,7 +47,7 @@ module _ (tenant : ℕ) where
 
   -- of a fresh ledger the tenant knows the capacity
   same-fresh : (capacity n n′ : ℕ) → view tenant (freshLedger capacity n) ≡ view tenant (freshLedger capacity n′)
-  unfolding fitted freshLedger
+  unfolding trimmed freshLedger
   same-fresh capacity n n′ = refl
 
 pub isolation : (tenant capacity n n′ : ℕ) → firstOf (startRows capacity) ≡ 0 → (calls calls′ : List Call) → Isolation tenant capacity n n′ calls calls′

@@ -24,8 +24,8 @@ eventsOf tenant (wrote id value server ∷ older) = cond (eqb (tenantOf id) tena
 eventsOf tenant (removed id ∷ older) = cond (eqb (tenantOf id) tenant) (removed id ∷ eventsOf tenant older) (eventsOf tenant older)
 
 -- a ledger with other events, over just the words that its servers have
-unfoldable pub fitted : Ledger → List Event → Ledger
-fitted L events = record {
+unfoldable pub trimmed : Ledger → List Event → Ledger
+trimmed L events = record {
   capacity = L .capacity;
   words = wordsFor L (L .servers);
   servers = L .servers;
@@ -36,7 +36,7 @@ fitted L events = record {
 
 -- what the tenant knows: its own events, and nothing of the medium's length
 abbrev pub view : ℕ → Ledger → Ledger
-view tenant L = fitted L (eventsOf tenant (L .events))
+view tenant L = trimmed L (eventsOf tenant (L .events))
 
 -- a reply of the ledger as far as it is shown
 unfoldable pub shownL : Call → Compared → Compared
@@ -48,7 +48,7 @@ accepts K c ok = cond (supposed c) ok (eqb (firstOf (rowsOf K c)) 0)
 
 unfoldable pub enterV : Ledger → Call → Bool → Entered
 enterV K c ok = cond (accepts K c ok)
-    (record { reply = shownL c (doneOf K c .reply); ledger = fitted (doneOf K c .ledger) (doneOf K c .ledger .events) })
+    (record { reply = shownL c (doneOf K c .reply); ledger = trimmed (doneOf K c .ledger) (doneOf K c .ledger .events) })
     (record { reply = shownL c (told (firstOf (rowsOf K c)) 0 0 0); ledger = K })
 
 -- the live entries of an id on the readable servers from one up
