@@ -8,8 +8,8 @@ use lib.Dec.{eqb}
 use borrow.Author.Tests.{ltb-false, not-false}
 use Rattle.limits.specs.Limits.{contentRange}
 use Rattle.lists.proofs.Tests.{or-false}
-use Rattle.tenants.specs.Tenant.{tenantOf, outOfRange, ofAnother}
-use Rattle.tenants.proofs.Tenants.{id-in-range, tenant-is}
+use Rattle.tenants.specs.Tenant.{outOfRange, ofAnother}
+use Rattle.tenants.proofs.Tenants.{id-in-range}
 use Rattle.medium.specs.Entry.{AllInside}
 use Rattle.table.specs.declared.Table.{Table}
 use Rattle.table.specs.Parts.{usedOf}
@@ -32,22 +32,8 @@ pub record ReadyTests (t : Table) (m : List ℕ) (outside other : Bool) : Type 0
   pub none : eqb (t .count) 0 ≡ false
   pub isShort : short t m ≡ false
 
--- the rows of two tables and two media whose tests say the same
-pub ready-same : (t u : Table) (m w : List ℕ) (outside other : Bool) → sound t ≡ sound u → t .count ≡ u .count → short t m ≡ short u w → firstOf (readyRows t m outside other) ≡ firstOf (readyRows u w outside other)
-unfolding readyRows
-ready-same t u m w outside other s c l =
-    first-same 1 _ _ _ _ (ap not s) (λ _.
-    first-same 2 _ _ _ _ refl (λ _.
-    first-same 11 _ _ _ _ refl (λ _.
-    first-same 3 _ _ _ _ (ap (λ (n : ℕ). eqb n 0) c) (λ _.
-    first-same 5 _ _ _ _ l (λ _. refl)))))
-
 module _ (t : Table) (m : List ℕ) (outside other : Bool) where
-  pub ready-numbered : numbered (readyRows t m outside other) ≡ true
-  unfolding readyRows numbered
-  ready-numbered = refl
-
-  pub ready-tests : firstOf (readyRows t m outside other) ≡ 0 → ReadyTests t m outside other
+  ready-tests : firstOf (readyRows t m outside other) ≡ 0 → ReadyTests t m outside other
   unfolding readyRows
   ready-tests z =
       let a = passed 0 (not (sound t)) _ z in
@@ -64,16 +50,15 @@ module _ (t : Table) (m : List ℕ) (outside other : Bool) where
       let s = sound-facts t (not-false _ (r .unsound)) in
       record { isSound = not-false _ (r .unsound); inside = record { small = s .high; few = s .few; fits = λ k l. s .server k l .fits; long = ltb-false _ _ (r .isShort) } }
 
--- a call that a tenant makes for an id: the id is in range and the tenant's own, and the other arguments are in range
-pub record Asked (tenant id : ℕ) (outside : Bool) : Type 0 where
+-- a call that a tenant makes for an id: the id and the other arguments are in range
+pub record Asked (id : ℕ) (outside : Bool) : Type 0 where
   pub small : id < contentRange
-  pub mine : tenantOf id ≡ tenant
   pub within : outside ≡ false
 
 module _ (t : Table) (m : List ℕ) (tenant id : ℕ) (outside : Bool) where
   pub asked-numbered : numbered (askedRows t m tenant id outside) ≡ true
-  unfolding askedRows
-  asked-numbered = ready-numbered t m _ _
+  unfolding askedRows readyRows numbered
+  asked-numbered = refl
 
   module _ (z : firstOf (askedRows t m tenant id outside) ≡ 0) where
     pub asked-tests : ReadyTests t m (outside || outOfRange tenant id) (ofAnother tenant id)
@@ -84,13 +69,18 @@ module _ (t : Table) (m : List ℕ) (tenant id : ℕ) (outside : Bool) where
     unfolding askedRows
     asked-ready = ready-accepted t m _ _ z
 
-    pub asked-accepted : Asked tenant id outside
+    pub asked-accepted : Asked id outside
     asked-accepted =
         let b = or-false outside (outOfRange tenant id) (asked-tests .within) in
-        record { small = id-in-range tenant id (b .1); mine = tenant-is tenant id (asked-tests .own); within = b .0 }
+        record { small = id-in-range tenant id (b .1); within = b .0 }
 
--- and of two tables and two media whose tests say the same
+-- the rows of two tables and two media whose tests say the same
 pub asked-same : (t u : Table) (m w : List ℕ) (tenant id : ℕ) (outside : Bool) → sound t ≡ sound u → t .count ≡ u .count → short t m ≡ short u w
     → firstOf (askedRows t m tenant id outside) ≡ firstOf (askedRows u w tenant id outside)
-unfolding askedRows
-asked-same t u m w tenant id outside s c l = ready-same t u m w _ _ s c l
+unfolding askedRows readyRows
+asked-same t u m w tenant id outside s c l =
+    first-same 1 _ _ _ _ (ap not s) (λ _.
+    first-same 2 _ _ _ _ refl (λ _.
+    first-same 11 _ _ _ _ refl (λ _.
+    first-same 3 _ _ _ _ (ap (λ (n : ℕ). eqb n 0) c) (λ _.
+    first-same 5 _ _ _ _ l (λ _. refl)))))

@@ -52,7 +52,10 @@ refusals S c = reply S c .refusal ∷ idRefusals S c
 unfoldable pub next : State → Call → State
 next S (addServer weight) = record { table = addServerTable (S .table) (S .medium) weight; medium = S .medium }
 next S (reweight server weight) = record { table = reweightTable (S .table) server weight; medium = S .medium }
-next S (write tenant id value) = record { table = writeTable (S .table) (S .medium) tenant id value; medium = writeMedium (S .table) (S .medium) tenant id value }
+next S (write tenant id value) = record {
+  table = writeTable (S .table) (S .medium) tenant id value;
+  medium = writeMedium (S .table) (S .medium) tenant id value;
+}
 next S (delete tenant id) = record { table = S .table; medium = deleteMedium (S .table) (S .medium) tenant id }
 next S (lookup tenant id) = S
 next S (batch tenant ids) = S

@@ -14,6 +14,6 @@ module _ (t : Table) (m : List ℕ) (tenant id : ℕ) (z : firstOf (lookupRows t
   unfolding lookupRows
   lookup-accepted = asked-ready t m tenant id false z
 
-  pub lookup-asked : Asked tenant id false
+  pub lookup-asked : Asked id false
   unfolding lookupRows
   lookup-asked = asked-accepted t m tenant id false z

@@ -25,11 +25,10 @@ pub target-is : (t : Table) (id : ℕ) → 0 < t .count → Picked modulus (draw
 unfolding target
 target-is t id l = writeServer-is (weightOf t) (t .count) id l
 
--- the id is the caller's own, its numbers are in range, and it goes to a server that is there and has an entry left, which is
--- blank
+-- its numbers are in range, and it goes to a server that is there and has an entry left, which is blank
 pub record WriteAccepted (t : Table) (m : List ℕ) (tenant id value : ℕ) : Type 0 where
   pub isSound : sound t ≡ true
-  pub asked : Asked tenant id (leb contentRange value)
+  pub asked : Asked id (leb contentRange value)
   pub small : value < contentRange
   pub there : target t id < t .count
   pub free : usedOf t (target t id) < t .capacity
