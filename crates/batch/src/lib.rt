@@ -42,6 +42,7 @@ pub fn lookup_batch(table: Table, medium: &[u32], tenant: u32, ids: &[u32]) -> B
     }
     let number = replies::check_number(checks::ready(shape, columns, medium, false, false));
     let servers = if number == 0 { table.count } else { 0 };
+    let steps = draws::steps();
     let mut parts = batch_begin::begin(number, tenant, ids);
     let mut mounts: usize = 0;
     let mut k = servers;
@@ -51,7 +52,16 @@ pub fn lookup_batch(table: Table, medium: &[u32], tenant: u32, ids: &[u32]) -> B
             num: table.numerators[k],
             den: table.denominators[k],
         };
-        parts = batch_steps::step_all(parts, read, table.capacity, table.used[k], medium, ids, k);
+        parts = batch_steps::step_all(
+            parts,
+            read,
+            &steps,
+            table.capacity,
+            table.used[k],
+            medium,
+            ids,
+            k,
+        );
         if batch_answer::has(&parts.ends, n, k as u32 + 1) {
             mounts += 1;
         }

@@ -1,9 +1,11 @@
 // A batch step by step: what one server makes of the part of one id, and of every id's part.
 ghost use mathlib.Core.Path.{_≡_};
+ghost use mathlib.Core.Bool.{true};
 ghost use Prim.Native.Nat.{ℕ, _≤_, _<_};
 ghost use lib.ListN.{length};
 ghost use Rattle.limits.specs.Limits.{maxServers, maxIds};
 ghost use Rattle.lists.specs.Below.{nth, highest};
+ghost use Rattle.draws.specs.Draw.{areSteps};
 ghost use Rattle.medium.specs.Entry.{live, Inside};
 ghost use Rattle.batch_steps.specs.Steps.{newestBy, stepped, steppedAll};
 use batch_begin::Parts;
@@ -43,6 +45,7 @@ fn newest_on(capacity: u32, used: u32, medium: &[u32], id: u32, server: usize) -
 fn step(
     progress: Progress,
     read: Fraction,
+    steps: &[u32],
     capacity: u32,
     used: u32,
     medium: &[u32],
@@ -52,12 +55,13 @@ fn step(
     requires { ⌜ Inside capacity server (now medium) ⌝ }
     requires { ⌜ used ≤ capacity ⌝ }
     requires { ⌜ progress .opened ≤ maxServers ⌝ }
+    requires { ⌜ areSteps (now steps) ≡ true ⌝ }
     ensures { λ r. ⌜ r ≡ stepped read capacity used (now (medium .entry)) id server progress ⌝ }
 {
     if progress.refusal != 8 {
         return progress;
     }
-    if !placement::takes(read, id, server) {
+    if !placement::takes(read, steps, id, server) {
         return progress;
     }
     let opened = progress.opened + 1;
@@ -86,6 +90,7 @@ fn step(
 pub fn step_all(
     parts: Parts,
     read: Fraction,
+    steps: &[u32],
     capacity: u32,
     used: u32,
     medium: &[u32],
@@ -96,6 +101,7 @@ pub fn step_all(
     requires { ⌜ used ≤ capacity ⌝ }
     requires { ⌜ length (now ids) ≤ maxIds ⌝ }
     requires { ⌜ ((i : ℕ) → i < length (now ids) → nth (parts .opened) i ≤ maxServers) ⌝ }
+    requires { ⌜ areSteps (now steps) ≡ true ⌝ }
     ensures { λ r. ⌜ r ≡ steppedAll read capacity used (now (medium .entry)) (now (ids .entry)) server parts ⌝ }
 {
     let mut next = parts;
@@ -107,7 +113,7 @@ pub fn step_all(
             opened: next.opened[i],
             end: next.ends[i],
         };
-        let after = step(before, read, capacity, used, medium, ids[i], server);
+        let after = step(before, read, steps, capacity, used, medium, ids[i], server);
         next.refusals[i] = after.refusal;
         next.values[i] = after.value;
         next.opened[i] = after.opened;

@@ -1,10 +1,12 @@
 // One call on a table lent as words. Its columns are parts of the words, so that only add_server and reweight copy them.
 ghost use mathlib.Core.Path.{_≡_};
+ghost use mathlib.Core.Bool.{true};
 ghost use mathlib.Core.Logic.{_≢_};
 ghost use Prim.Native.Nat.{_<_, _≤_};
 ghost use lib.ListN.{length};
 ghost use Rattle.limits.specs.Limits.{maxServers, maxCapacity};
 ghost use Rattle.lists.specs.Below.{nth};
+ghost use Rattle.draws.specs.Draw.{areSteps};
 ghost use Rattle.table_words.specs.Words.{usedOffset, tableLength, columnFrom, withTable};
 ghost use Rattle.replies.specs.Number.{addServerNumber, reweightNumber, writeNumber};
 ghost use Rattle.dispatch.specs.ByNumber.{callOf, replyTo, nextBy, usedAfter};
@@ -30,6 +32,7 @@ use table_words::WEIGHTS_OFFSET;
 // Runs a call but add_server and reweight. `count` then makes the table after it.
 fn run_on(
     words: &[u32],
+    steps: &[u32],
     medium: &mut [u32],
     number: u32,
     tenant: u32,
@@ -37,6 +40,7 @@ fn run_on(
     amount: u32,
 ) -> Reply
     requires { ⌜ tableLength ≤ length (now words) ⌝ }
+    requires { ⌜ areSteps (now steps) ≡ true ⌝ }
     requires { ⌜ (number ≢ addServerNumber) × (number ≢ reweightNumber) ⌝ }
     ensures reply { λ r. ⌜ r ≡ replyTo (lent (now (words .entry)) (now (medium .entry))) (callOf number tenant subject amount) ⌝ }
     ensures medium { λ _. ⌜ now (medium .exit) ≡ nextBy (lent (now (words .entry)) (now (medium .entry))) (callOf number tenant subject amount) .medium ⌝ }
@@ -51,7 +55,16 @@ fn run_on(
         &words[NUMERATORS_OFFSET..DENOMINATORS_OFFSET],
         &words[DENOMINATORS_OFFSET..TABLE_LENGTH],
     ];
-    dispatch::run_in(shape, columns, medium, number, tenant, subject, amount)
+    dispatch::run_in(
+        shape,
+        columns,
+        steps,
+        medium,
+        number,
+        tenant,
+        subject,
+        amount,
+    )
 }
 
 // Counts the entry of an accepted write as used on its server.
@@ -67,6 +80,7 @@ fn count(words: &mut [u32], number: u32, reply: Reply)
 // Runs a call by its number on a table lent as words.
 pub fn run(
     table: &mut [u32],
+    steps: &[u32],
     medium: &mut [u32],
     number: u32,
     tenant: u32,
@@ -74,6 +88,7 @@ pub fn run(
     amount: u32,
 ) -> Reply
     requires { ⌜ tableLength ≤ length (now table) ⌝ }
+    requires { ⌜ areSteps (now steps) ≡ true ⌝ }
     ensures reply { λ r. ⌜ r ≡ replyTo (lent (now (table .entry)) (now (medium .entry))) (callOf number tenant subject amount) ⌝ }
     ensures table { λ _. ⌜ now (table .exit)
         ≡ withTable (now (table .entry)) (nextBy (lent (now (table .entry)) (now (medium .entry))) (callOf number tenant subject amount) .table) ⌝ }
@@ -90,7 +105,7 @@ pub fn run(
         table_words::store_table(table, ran.table);
         return ran.reply;
     }
-    let reply = run_on(table, medium, number, tenant, subject, amount);
+    let reply = run_on(table, steps, medium, number, tenant, subject, amount);
     count(table, number, reply);
     reply
 }
@@ -111,8 +126,10 @@ pub fn call(table: &mut [u32], medium: &mut [u32], call: &[u32], reply: &mut [u3
     if reply.len() < REPLY_LENGTH {
         return encoding::TOO_SHORT;
     }
+    let steps = draws::steps();
     let told = run(
         table,
+        &steps,
         medium,
         call[NUMBER_OFFSET],
         call[TENANT_OFFSET],

@@ -1,5 +1,7 @@
 // Delete: every live entry of an id on every readable server is invalidated.
 ghost use mathlib.Core.Path.{_≡_};
+ghost use mathlib.Core.Bool.{true};
+ghost use Rattle.draws.specs.Draw.{areSteps};
 ghost use Rattle.table.specs.Parts.{tableOf, Whole};
 ghost use Rattle.replies.specs.Reply.{replyOfDelete};
 ghost use Rattle.deletion.specs.Deletion.{deleteReply, deleteMedium};
@@ -14,11 +16,13 @@ use table::Table;
 pub fn delete_in<'a>(
     shape: Shape,
     columns: Columns<'a>,
+    steps: &[u32],
     medium: &mut [u32],
     tenant: u32,
     id: u32,
 ) -> DeleteAnswer
     requires { ⌜ Whole columns ⌝ }
+    requires { ⌜ areSteps (now steps) ≡ true ⌝ }
     ensures reply { λ r. ⌜ replyOfDelete r ≡ deleteReply (tableOf shape (columns .entry)) (now (medium .entry)) tenant id ⌝ }
     ensures medium { λ _. ⌜ now (medium .exit) ≡ deleteMedium (tableOf shape (columns .entry)) (now (medium .entry)) tenant id ⌝ }
 {
@@ -26,7 +30,7 @@ pub fn delete_in<'a>(
     if let Check::Refused(refusal) = check {
         return DeleteAnswer::Refused(refusal);
     }
-    let n = invalidation::invalidate(medium, shape, columns, id, 0, medium::DELETED);
+    let n = invalidation::invalidate(medium, shape, columns, steps, id, 0, medium::DELETED);
     if n == 0 {
         return DeleteAnswer::Refused(Refusal::NotFound);
     }
@@ -42,11 +46,12 @@ pub fn delete(table: Table, medium: &mut [u32], tenant: u32, id: u32) -> DeleteA
         capacity: table.capacity,
         count: table.count,
     };
+    let steps = draws::steps();
     let columns: Columns = [
         &table.weights,
         &table.used,
         &table.numerators,
         &table.denominators,
     ];
-    delete_in(shape, columns, medium, tenant, id)
+    delete_in(shape, columns, &steps, medium, tenant, id)
 }

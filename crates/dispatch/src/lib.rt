@@ -1,10 +1,12 @@
 // One call, run by its number: add_server and reweight on a table by value, every other call on borrowed columns.
 ghost use mathlib.Core.Path.{_≡_};
+ghost use mathlib.Core.Bool.{true};
 ghost use mathlib.Core.Logic.{_≢_};
 ghost use Prim.Native.Nat.{ℕ, _<_};
 ghost use lib.ListN.{length};
 ghost use Rattle.limits.specs.Limits.{maxCapacity};
 ghost use Rattle.lists.specs.Below.{nth};
+ghost use Rattle.draws.specs.Draw.{areSteps};
 ghost use Rattle.table.specs.Parts.{tableOf, Whole};
 ghost use Rattle.replies.specs.Number.{addServerNumber, reweightNumber, writeNumber};
 ghost use Rattle.replies.specs.Reply.{refused, replyOfServer};
@@ -55,6 +57,7 @@ fn no_call() -> Reply
 pub fn run_in<'a>(
     shape: Shape,
     columns: Columns<'a>,
+    steps: &[u32],
     medium: &mut [u32],
     number: u32,
     tenant: u32,
@@ -62,6 +65,7 @@ pub fn run_in<'a>(
     amount: u32,
 ) -> Reply
     requires { ⌜ Whole columns ⌝ }
+    requires { ⌜ areSteps (now steps) ≡ true ⌝ }
     requires { ⌜ (number ≢ addServerNumber) × (number ≢ reweightNumber) ⌝ }
     ensures reply { λ r. ⌜ r
         ≡ replyTo (record { table = tableOf shape (columns .entry); medium = now (medium .entry) }) (callOf number tenant subject amount) ⌝ }
@@ -72,6 +76,7 @@ pub fn run_in<'a>(
         WRITE => replies::write_reply(writing::write_in(
             shape,
             columns,
+            steps,
             medium,
             tenant,
             subject,
@@ -80,11 +85,19 @@ pub fn run_in<'a>(
         DELETE => replies::delete_reply(deletion::delete_in(
             shape,
             columns,
+            steps,
             medium,
             tenant,
             subject,
         )),
-        LOOKUP => replies::lookup_reply(lookup::lookup_in(shape, columns, medium, tenant, subject)),
+        LOOKUP => replies::lookup_reply(lookup::lookup_in(
+            shape,
+            columns,
+            steps,
+            medium,
+            tenant,
+            subject,
+        )),
         _ => no_call(),
     }
 }

@@ -1,9 +1,13 @@
 -- The draw of an id on a server (document 01, "The draw"): xorshift of 32 bits, shifts 13, 17 and 5.
 -- Server is document 01's shelf, id its ticket number.
 use Prim.Native.Nat.{ℕ, _+_, _*_, _/_, _%_, _^_}
-use mathlib.Core.Bool.{cond}
+use mathlib.Core.Bool.{Bool, cond, _&&_}
+use mathlib.Core.List.{List}
 use lib.Bits.{bitXor}
 use lib.Dec.{eqb}
+use lib.ListN.{length}
+use Rattle.limits.specs.Limits.{maxServers}
+use Rattle.lists.specs.Below.{nth, allBelow}
 
 -- 2^32: steps, seeds and draws are numbers below it
 abbrev pub modulus : ℕ
@@ -12,6 +16,10 @@ modulus = 4294967296
 -- the step of server k
 unfoldable pub stepOf : ℕ → ℕ
 stepOf k = (k + 1) * 2654435769 % modulus
+
+-- the rule of a table of steps, one test of all its entries together: entry k is the step of server k
+unfoldable pub areSteps : List ℕ → Bool
+areSteps words = eqb (length words) maxServers && allBelow (λ k. eqb (nth words k) (stepOf k)) maxServers
 
 -- a seed of 0 becomes 1
 unfoldable pub nonzero : ℕ → ℕ

@@ -1,23 +1,41 @@
 // The draw of an id on a server: the server's step, the seed, and three rounds of xorshift. This crate knows no weights.
-ghost use mathlib.Core.Path.{_≡_};
-ghost use Prim.Native.Nat.{_<_};
-ghost use Rattle.limits.specs.Limits.{maxServers};
-ghost use Rattle.draws.specs.Draw.{stepOf, seedOf, roundOf, drawOf};
+mod constants;
 
-// The step of a server. There are at most 256 servers.
-pub fn step(server: usize) -> u32
+ghost use mathlib.Core.Path.{_≡_};
+ghost use mathlib.Core.Bool.{true};
+ghost use Prim.Native.Nat.{_<_};
+ghost use lib.ListN.{length};
+ghost use Rattle.limits.specs.Limits.{maxServers};
+ghost use Rattle.draws.specs.Draw.{stepOf, areSteps, seedOf, roundOf, drawOf};
+use constants::STEPS;
+use limits::MAX_SERVERS;
+
+// The steps of all servers, a table of constants. The language has no read-only data: who names the table writes it out whole. So
+// who draws is lent it, and it is written once for a call or a list of calls and not for each draw. Its length is said apart, for
+// who lends it as a slice.
+pub fn steps() -> [u32; MAX_SERVERS]
+    ensures rule { λ r. ⌜ areSteps r ≡ true ⌝ }
+    ensures length { λ r. ⌜ maxServers ≡ length r ⌝ }
+{
+    STEPS
+}
+
+// The step of a server, from the table. There are at most 256 servers.
+pub fn step(steps: &[u32], server: usize) -> u32
+    requires { ⌜ areSteps (now steps) ≡ true ⌝ }
     requires { ⌜ server < maxServers ⌝ }
     ensures { λ r. ⌜ r ≡ stepOf server ⌝ }
 {
-    ((server + 1) * 2654435769 % 4294967296) as u32
+    steps[server]
 }
 
 // The seed of an id on a server, which is never 0.
-pub fn seed(id: u32, server: usize) -> u32
+pub fn seed(steps: &[u32], id: u32, server: usize) -> u32
+    requires { ⌜ areSteps (now steps) ≡ true ⌝ }
     requires { ⌜ server < maxServers ⌝ }
     ensures { λ r. ⌜ r ≡ seedOf id server ⌝ }
 {
-    let s = std::num::wrapping_add_u32(id, step(server));
+    let s = std::num::wrapping_add_u32(id, step(steps, server));
     if s == 0 { 1 } else { s }
 }
 
@@ -31,9 +49,10 @@ pub fn round(s: u32) -> u32
 }
 
 // The draw of an id on a server.
-pub fn draw(id: u32, server: usize) -> u32
+pub fn draw(steps: &[u32], id: u32, server: usize) -> u32
+    requires { ⌜ areSteps (now steps) ≡ true ⌝ }
     requires { ⌜ server < maxServers ⌝ }
     ensures { λ r. ⌜ r ≡ drawOf id server ⌝ }
 {
-    round(round(round(seed(id, server))))
+    round(round(round(seed(steps, id, server))))
 }

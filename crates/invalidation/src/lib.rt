@@ -1,9 +1,11 @@
 // The invalidations of a write and of a delete: a mark on each live entry of an id, server by server.
 ghost use mathlib.Core.Path.{_≡_};
+ghost use mathlib.Core.Bool.{true};
 ghost use Prim.Native.Nat.{_<_};
 ghost use lib.ListN.{length};
 ghost use Rattle.limits.specs.Limits.{contentRange};
 ghost use Rattle.lists.specs.Below.{nth};
+ghost use Rattle.draws.specs.Draw.{areSteps};
 ghost use Rattle.medium.specs.Entry.{AllInside};
 ghost use Rattle.medium.specs.Burn.{burnAll, invalidations};
 ghost use Rattle.table.specs.Parts.{column, tableOf, Whole};
@@ -18,6 +20,7 @@ pub fn invalidate<'a>(
     medium: &mut [u32],
     shape: Shape,
     columns: Columns<'a>,
+    steps: &[u32],
     id: u32,
     from: usize,
     content: u32,
@@ -25,6 +28,7 @@ pub fn invalidate<'a>(
     requires { ⌜ Whole columns ⌝ }
     requires { ⌜ AllInside (shape .capacity) (shape .count) (nth (column columns 1)) (now medium) ⌝ }
     requires { ⌜ content < contentRange ⌝ }
+    requires { ⌜ areSteps (now steps) ≡ true ⌝ }
     ensures count { λ r. ⌜ r ≡ length (marksFrom (tableOf shape (columns .entry)) (now (medium .entry)) id from) ⌝ }
     ensures words { λ _. ⌜ now (medium .exit)
         ≡ burnAll (now (medium .entry)) (invalidations content (marksFrom (tableOf shape (columns .entry)) (now (medium .entry)) id from)) ⌝ }
@@ -43,7 +47,7 @@ pub fn invalidate<'a>(
             num: numerators[k],
             den: denominators[k],
         };
-        if placement::takes(read, id, k) {
+        if placement::takes(read, steps, id, k) {
             n += medium::invalidate_server(medium, entries, used[k] as usize, id, k, content);
         }
     }

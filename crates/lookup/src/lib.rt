@@ -1,7 +1,9 @@
 // Lookup: the value of an id, or why there is none, and how many servers were opened.
 ghost use mathlib.Core.Path.{_≡_};
+ghost use mathlib.Core.Bool.{true};
 ghost use mathlib.Core.Option.{some};
 ghost use Prim.Native.Nat.{_<_};
+ghost use Rattle.draws.specs.Draw.{areSteps};
 ghost use Rattle.medium.specs.Entry.{Inside};
 ghost use Rattle.table.specs.Parts.{tableOf, Whole};
 ghost use Rattle.replies.specs.Reply.{replyOfLookup};
@@ -39,11 +41,13 @@ pub fn met(
 pub fn lookup_in<'a>(
     shape: Shape,
     columns: Columns<'a>,
+    steps: &[u32],
     medium: &[u32],
     tenant: u32,
     id: u32,
 ) -> LookupAnswer
     requires { ⌜ Whole columns ⌝ }
+    requires { ⌜ areSteps (now steps) ≡ true ⌝ }
     ensures { λ r. ⌜ replyOfLookup r ≡ lookupReply (tableOf shape (columns .entry)) (now (medium .entry)) tenant id ⌝ }
 {
     let capacity = shape.capacity;
@@ -51,7 +55,7 @@ pub fn lookup_in<'a>(
     if let Check::Refused(refusal) = check {
         return LookupAnswer::Refused(refusal, 0);
     }
-    let answer = search::find(shape, columns, medium, id);
+    let answer = search::find(shape, columns, steps, medium, id);
     match answer {
         SearchAnswer::Nowhere(opened) => LookupAnswer::Refused(Refusal::NotFound, opened),
         SearchAnswer::At(server, entry, opened) => met(capacity, medium, server, entry, opened),
@@ -66,11 +70,12 @@ pub fn lookup(table: Table, medium: &[u32], tenant: u32, id: u32) -> LookupAnswe
         capacity: table.capacity,
         count: table.count,
     };
+    let steps = draws::steps();
     let columns: Columns = [
         &table.weights,
         &table.used,
         &table.numerators,
         &table.denominators,
     ];
-    lookup_in(shape, columns, medium, tenant, id)
+    lookup_in(shape, columns, &steps, medium, tenant, id)
 }

@@ -38,11 +38,12 @@ pub fn picks(weights: &[u32], ids: &[u32], servers: &mut [u32]) -> usize
     if !are_bounded(weights) {
         return 0;
     }
+    let steps = draws::steps();
     let count = weights.len();
     let n = lists::lesser(ids.len(), servers.len());
     let mut i: usize = 0;
     while i < n {
-        servers[i] = placement::write_server(weights, count, ids[i]) as u32;
+        servers[i] = placement::write_server(weights, &steps, count, ids[i]) as u32;
         i += 1;
     }
     n

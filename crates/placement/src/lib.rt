@@ -1,10 +1,11 @@
 // The published rule on plain numbers: the comparison of a fraction with a draw, WriteP, and the write server of an id. This
 // crate knows no table and no medium.
 ghost use mathlib.Core.Path.{_≡_};
+ghost use mathlib.Core.Bool.{true};
 ghost use Prim.Native.Nat.{_<_};
 ghost use Rattle.limits.specs.Limits.{maxServers};
 ghost use Rattle.lists.specs.Below.{nth, total};
-ghost use Rattle.draws.specs.Draw.{modulus, drawOf};
+ghost use Rattle.draws.specs.Draw.{modulus, areSteps, drawOf};
 ghost use Rattle.placement.specs.Fraction.{exceeds, atLeast};
 ghost use Rattle.placement.specs.Rule.{shareOf, writeServer, Bounded};
 
@@ -63,11 +64,12 @@ pub fn at_least_write_p(f: Fraction, server: usize, weight: u32, sum: u32) -> bo
 
 // Whether a server with this fraction takes an id: the fraction exceeds the server's draw. With WriteP it is the write
 // rule, with ReadP the read rule.
-pub fn takes(f: Fraction, id: u32, server: usize) -> bool
+pub fn takes(f: Fraction, steps: &[u32], id: u32, server: usize) -> bool
+    requires { ⌜ areSteps (now steps) ≡ true ⌝ }
     requires { ⌜ server < maxServers ⌝ }
     ensures { λ r. ⌜ r ≡ exceeds modulus f (drawOf id server) ⌝ }
 {
-    exceeds(f, draws::draw(id, server))
+    exceeds(f, draws::draw(steps, id, server))
 }
 
 // The sum of the first `count` weights.
@@ -85,8 +87,9 @@ pub fn sum_weights(weights: &[u32], count: usize) -> u32
 }
 
 // The write server of an id among `count` servers: from the highest down, the first whose WriteP exceeds its draw.
-pub fn write_server(weights: &[u32], count: usize, id: u32) -> usize
+pub fn write_server(weights: &[u32], steps: &[u32], count: usize, id: u32) -> usize
     requires { ⌜ Bounded (now weights) count ⌝ }
+    requires { ⌜ areSteps (now steps) ≡ true ⌝ }
     ensures { λ r. ⌜ r ≡ writeServer (nth (now (weights .entry))) count id ⌝ }
 {
     let mut sum = sum_weights(weights, count);
@@ -94,7 +97,7 @@ pub fn write_server(weights: &[u32], count: usize, id: u32) -> usize
     while 0 < k {
         k -= 1;
         let weight = weights[k];
-        if takes(write_p(k, weight, sum), id, k) {
+        if takes(write_p(k, weight, sum), steps, id, k) {
             return k;
         }
         sum -= weight;

@@ -1,5 +1,7 @@
 // The tests before a write, in the order of its rows, and the server that it goes to.
 ghost use mathlib.Core.Path.{_≡_};
+ghost use mathlib.Core.Bool.{true};
+ghost use Rattle.draws.specs.Draw.{areSteps};
 ghost use Rattle.table.specs.Parts.{tableOf, Whole};
 ghost use Rattle.replies.specs.Refusal.{firstOf, settle};
 ghost use Rattle.planning.specs.Plan.{planNumber, planServer};
@@ -20,12 +22,14 @@ pub enum Plan {
 pub fn plan_write<'a>(
     shape: Shape,
     columns: Columns<'a>,
+    steps: &[u32],
     medium: &[u32],
     tenant: u32,
     id: u32,
     value: u32,
 ) -> Plan
     requires { ⌜ Whole columns ⌝ }
+    requires { ⌜ areSteps (now steps) ≡ true ⌝ }
     ensures number { λ r. ⌜ planNumber r ≡ firstOf (writeRows (tableOf shape (columns .entry)) (now (medium .entry)) tenant id value) ⌝ }
     ensures server { λ r. ⌜ planServer r
         ≡ settle (writeRows (tableOf shape (columns .entry)) (now (medium .entry)) tenant id value) (target (tableOf shape (columns .entry)) id) 0 ⌝ }
@@ -38,7 +42,7 @@ pub fn plan_write<'a>(
     if let Check::Refused(refusal) = check {
         return Plan::Refused(refusal);
     }
-    let server = placement::write_server(weights, count, id);
+    let server = placement::write_server(weights, steps, count, id);
     let entry = used[server];
     if entry == capacity {
         return Plan::Refused(Refusal::ServerFull);

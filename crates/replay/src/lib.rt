@@ -1,8 +1,10 @@
 // This crate runs encoded lists of calls: on a started table, where the replies are the plain ledger's if the words are blank,
 // and on a table lent as words.
 ghost use mathlib.Core.Path.{_≡_};
+ghost use mathlib.Core.Bool.{true};
 ghost use Prim.Native.Nat.{_≤_, _*_};
 ghost use lib.ListN.{length};
+ghost use Rattle.draws.specs.Draw.{areSteps};
 ghost use Rattle.table_words.specs.Words.{tableLength, withTable};
 ghost use Rattle.history.specs.Machine.{after};
 ghost use Rattle.encoding.specs.Encoding.{callLength, replyLength};
@@ -19,8 +21,16 @@ use table_words::TABLE_LENGTH;
 
 // Runs the first `n` encoded calls on a table lent as words. A call and its reply have as many words, so both begin at the same
 // word.
-fn run_calls(table: &mut [u32], calls: &[u32], medium: &mut [u32], replies: &mut [u32], n: usize)
+fn run_calls(
+    table: &mut [u32],
+    steps: &[u32],
+    calls: &[u32],
+    medium: &mut [u32],
+    replies: &mut [u32],
+    n: usize,
+)
     requires { ⌜ tableLength ≤ length (now table) ⌝ }
+    requires { ⌜ areSteps (now steps) ≡ true ⌝ }
     requires { ⌜ (callLength * n ≤ length (now calls)) × (replyLength * n ≤ length (now replies)) ⌝ }
     ensures table { λ _. ⌜ now (table .exit)
         ≡ withTable (now (table .entry)) (after (lent (now (table .entry)) (now (medium .entry))) (callsBelow (now (calls .entry)) n) .table) ⌝ }
@@ -33,6 +43,7 @@ fn run_calls(table: &mut [u32], calls: &[u32], medium: &mut [u32], replies: &mut
     while at < end {
         let reply = call_words::run(
             table,
+            steps,
             medium,
             calls[at + NUMBER_OFFSET],
             calls[at + TENANT_OFFSET],
@@ -67,7 +78,8 @@ pub fn replay(capacity: u32, calls: &[u32], medium: &mut [u32], replies: &mut [u
     let n = encoding::room(calls.len(), replies.len());
     let mut words = zero_words();
     table_words::store_table(&mut words, begun.table);
-    run_calls(&mut words, calls, medium, replies, n);
+    let steps = draws::steps();
+    run_calls(&mut words, &steps, calls, medium, replies, n);
     n
 }
 
@@ -84,6 +96,7 @@ pub fn resume(table: &mut [u32], calls: &[u32], medium: &mut [u32], replies: &mu
         return 0;
     }
     let n = encoding::room(calls.len(), replies.len());
-    run_calls(table, calls, medium, replies, n);
+    let steps = draws::steps();
+    run_calls(table, &steps, calls, medium, replies, n);
     n
 }

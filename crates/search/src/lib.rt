@@ -1,6 +1,8 @@
 // The search of a lookup: over the servers from the highest down, and on each over its entries downward.
 ghost use mathlib.Core.Path.{_≡_};
+ghost use mathlib.Core.Bool.{true};
 ghost use Rattle.lists.specs.Below.{nth};
+ghost use Rattle.draws.specs.Draw.{areSteps};
 ghost use Rattle.medium.specs.Entry.{AllInside};
 ghost use Rattle.table.specs.Parts.{column, tableOf, Whole};
 ghost use Rattle.search.specs.Search.{searchFor, answerOf};
@@ -15,9 +17,16 @@ pub enum SearchAnswer {
 }
 
 // The entry that a lookup meets, and how many servers it opens.
-pub fn find<'a>(shape: Shape, columns: Columns<'a>, medium: &[u32], id: u32) -> SearchAnswer
+pub fn find<'a>(
+    shape: Shape,
+    columns: Columns<'a>,
+    steps: &[u32],
+    medium: &[u32],
+    id: u32,
+) -> SearchAnswer
     requires { ⌜ Whole columns ⌝ }
     requires { ⌜ AllInside (shape .capacity) (shape .count) (nth (column columns 1)) (now medium) ⌝ }
+    requires { ⌜ areSteps (now steps) ≡ true ⌝ }
     ensures { λ r. ⌜ r ≡ answerOf (searchFor (tableOf shape (columns .entry)) (now (medium .entry)) id) ⌝ }
 {
     let capacity = shape.capacity;
@@ -36,7 +45,7 @@ pub fn find<'a>(shape: Shape, columns: Columns<'a>, medium: &[u32], id: u32) -> 
             num: numerators[k],
             den: denominators[k],
         };
-        if placement::takes(read, id, k) {
+        if placement::takes(read, steps, id, k) {
             opened += 1;
             j = used[k] as usize;
             while 0 < j {

@@ -61,13 +61,23 @@ fn run_by_value(
         capacity: table.capacity,
         count: table.count,
     };
+    let steps = draws::steps();
     let columns: Columns = [
         &table.weights,
         &table.used,
         &table.numerators,
         &table.denominators,
     ];
-    let reply = dispatch::run_in(shape, columns, medium, number, tenant, subject, amount);
+    let reply = dispatch::run_in(
+        shape,
+        columns,
+        &steps,
+        medium,
+        number,
+        tenant,
+        subject,
+        amount,
+    );
     let mut next = table;
     count_in(&mut next.used, number, reply);
     Ran { reply, table: next }

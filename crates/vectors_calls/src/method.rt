@@ -20,16 +20,18 @@ fn picked(first: u32, second: u32, third: u32) -> u64
     requires { ⌜ (first ≤ maxCapacity) × (second ≤ maxCapacity) × (third ≤ maxCapacity) ⌝ }
 {
     let weights: [u32; 3] = [first, second, third];
-    placement::write_server(&weights, 3, 626627286) as u64
+    let steps = draws::steps();
+    placement::write_server(&weights, &steps, 3, 626627286) as u64
 }
 
 // p is for the step of a server, s for the seed and d for the draw of an id on a server, r for a seed after some rounds, and k
 // for the pick among three servers of these weights.
 fn number(letter: u8, a: u32, b: u32, c: u32) -> u64 {
+    let steps = draws::steps();
     match letter {
-        b'p' => draws::step((a % 256) as usize) as u64,
-        b's' => draws::seed(a, (b % 256) as usize) as u64,
-        b'd' => draws::draw(a, (b % 256) as usize) as u64,
+        b'p' => draws::step(&steps, (a % 256) as usize) as u64,
+        b's' => draws::seed(&steps, a, (b % 256) as usize) as u64,
+        b'd' => draws::draw(&steps, a, (b % 256) as usize) as u64,
         b'r' => rounds(a, b) as u64,
         _ => picked(a % 65537, b % 65537, c % 65537),
     }

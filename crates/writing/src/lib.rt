@@ -1,8 +1,10 @@
 // Write: a value and its id go to the write server, and earlier entries of the id are invalidated.
 ghost use mathlib.Core.Path.{_≡_};
+ghost use mathlib.Core.Bool.{true};
 ghost use Prim.Native.Nat.{_<_, _+_};
 ghost use lib.ListN.{length, set};
 ghost use Rattle.limits.specs.Limits.{contentRange};
+ghost use Rattle.draws.specs.Draw.{areSteps};
 ghost use Rattle.medium.specs.Word.{idWord, valueWord};
 ghost use Rattle.medium.specs.Entry.{valuePlace};
 ghost use Rattle.table.specs.Parts.{tableOf, Whole};
@@ -35,17 +37,19 @@ fn enter(medium: &mut [u32], at: usize, id: u32, value: u32)
 pub fn write_in<'a>(
     shape: Shape,
     columns: Columns<'a>,
+    steps: &[u32],
     medium: &mut [u32],
     tenant: u32,
     id: u32,
     value: u32,
 ) -> WriteAnswer
     requires { ⌜ Whole columns ⌝ }
+    requires { ⌜ areSteps (now steps) ≡ true ⌝ }
     ensures reply { λ r. ⌜ replyOfWrite r ≡ writeReply (tableOf shape (columns .entry)) (now (medium .entry)) tenant id value ⌝ }
     ensures medium { λ _. ⌜ now (medium .exit) ≡ writeMedium (tableOf shape (columns .entry)) (now (medium .entry)) tenant id value ⌝ }
 {
     let capacity = shape.capacity;
-    let plan = planning::plan_write(shape, columns, medium, tenant, id, value);
+    let plan = planning::plan_write(shape, columns, steps, medium, tenant, id, value);
     match plan {
         Plan::Refused(refusal) => WriteAnswer::Refused(refusal),
         Plan::To(server) => {
@@ -53,7 +57,15 @@ pub fn write_in<'a>(
             let entry = used[server] as usize;
             let at = medium::entry_at(capacity as usize, server, entry);
             enter(medium, at, id, value);
-            let n = invalidation::invalidate(medium, shape, columns, id, server, medium::REPLACED);
+            let n = invalidation::invalidate(
+                medium,
+                shape,
+                columns,
+                steps,
+                id,
+                server,
+                medium::REPLACED,
+            );
             WriteAnswer::Written(server, n)
         }
     }
@@ -69,13 +81,14 @@ pub fn write(table: Table, medium: &mut [u32], tenant: u32, id: u32, value: u32)
         capacity: table.capacity,
         count: table.count,
     };
+    let steps = draws::steps();
     let columns: Columns = [
         &table.weights,
         &table.used,
         &table.numerators,
         &table.denominators,
     ];
-    let answer = write_in(shape, columns, medium, tenant, id, value);
+    let answer = write_in(shape, columns, &steps, medium, tenant, id, value);
     match answer {
         WriteAnswer::Refused(_) => Written { answer, table },
         WriteAnswer::Written(server, _) => {

@@ -19,20 +19,20 @@ use Rattle.batch.proofs.lookup_batch.Statement.{statement}
 use Rattle.batch.proofs.lookup_batch.Tie as tie
 
 abbrev Inv-loop : tie.InvT-loop
-Inv-loop medium tenant ids table n number servers parts₀ mounts₀ k₀ parts mounts k = BatchFrom table medium tenant ids k parts mounts
+Inv-loop medium tenant ids table n number servers steps parts₀ mounts₀ k₀ parts mounts k = BatchFrom table medium tenant ids k parts mounts
 
 abbrev μ-loop : tie.MeasureT-loop
-μ-loop medium tenant ids table n number servers parts₀ mounts₀ k₀ parts mounts k = k
+μ-loop medium tenant ids table n number servers steps parts₀ mounts₀ k₀ parts mounts k = k
 
 -- the start, from the place where the columns are lent and from where the number of servers is known
-abbrev B : tie.After-t232 Inv-loop μ-loop → tie.Start Inv-loop μ-loop
+abbrev B : tie.After-t242 Inv-loop μ-loop → tie.Start Inv-loop μ-loop
 B c = c .before .before .before .before .before .before .before .before .before .before .before
 
 abbrev J : tie.Joined2 Inv-loop μ-loop → tie.Start Inv-loop μ-loop
 J j = B (j .before .before .before .before)
 
 abbrev S : tie.At-loop Inv-loop μ-loop → tie.Start Inv-loop μ-loop
-S l = J (l .before .before)
+S l = J (l .before .before .before)
 
 -- table, medium, the caller's tenant and ids
 abbrev T : tie.Start Inv-loop μ-loop → Table
@@ -61,6 +61,9 @@ ready-requires c κs = search needs
 check-number-requires : tie.Need-check-number-requires Inv-loop μ-loop
 check-number-requires c κs = search needs
 
+steps-requires : tie.Need-steps-requires Inv-loop μ-loop
+steps-requires c κs = search needs
+
 begin-requires : tie.Need-begin-requires Inv-loop μ-loop
 begin-requires c κs = search needs
 
@@ -82,7 +85,7 @@ servers-here j =
 
 loop-holds : tie.Need-loop-holds Inv-loop μ-loop
 loop-holds c =
-    let j = c .before in
+    let j = c .before .before in
     let s = J j in
     batch-start (T s) (M s) (C s) (I s) (few j) (j .before .check-number .result) (j .if2 .servers) (number-here j) (servers-here j) (c .begin .result) (c .begin .ensures)
 
@@ -111,28 +114,31 @@ mul-step-all-2 c = omega (arith, low (c .before .before))
 element-copy-out-step-all-2 : tie.Need-element-copy-out-step-all-2 Inv-loop μ-loop
 element-copy-out-step-all-2 c = omega (arith, low (c .before .before))
 
+slice-aggregate-step-all : tie.Need-slice-aggregate-step-all Inv-loop μ-loop
+slice-aggregate-step-all c = search needs
+
 mul-step-all-3 : tie.Need-mul-step-all-3 Inv-loop μ-loop
-mul-step-all-3 c = omega (arith, low (c .before .before .before))
+mul-step-all-3 c = omega (arith, low (c .before .before .before .before))
 
 element-copy-out-step-all-3 : tie.Need-element-copy-out-step-all-3 Inv-loop μ-loop
-element-copy-out-step-all-3 c = omega (arith, low (c .before .before .before))
+element-copy-out-step-all-3 c = omega (arith, low (c .before .before .before .before))
 
 step-all-requires : tie.Need-step-all-requires Inv-loop μ-loop
 step-all-requires c κs =
-    let w = c .before .before .before .before in
+    let w = c .before .before .before .before .before in
     let l = w .before in
     let s = S l in
     let h = here w in (
       each-inside (T s .capacity) (T s .count) (l .loop .k - 1) (nth (T s .used)) (M s) (h .1 .inside) (h .0),
       (
         h .1 .inside .fits (l .loop .k - 1) (h .0),
-        (l .loop .inv .done .few, opened-few (T s) (M s) (C s) (I s) (l .loop .k) (l .loop .parts) (l .loop .inv .done) (h .1 .inside .few)),
+        (l .loop .inv .done .few, (opened-few (T s) (M s) (C s) (I s) (l .loop .k) (l .loop .parts) (l .loop .inv .done) (h .1 .inside .few), l .before .before .steps .ensures .0)),
       ),
     )
 
 -- the loop's body, as the places after the server have it
 abbrev A : tie.After-has-arg Inv-loop μ-loop → tie.In-loop Inv-loop μ-loop
-A c = c .before .before .before .before .before .before .before
+A c = c .before .before .before .before .before .before .before .before
 
 abbrev W : tie.After-has Inv-loop μ-loop → tie.In-loop Inv-loop μ-loop
 W c = A (c .before)
@@ -185,15 +191,15 @@ order-requires c κs =
     let a = c .before .before .before .before .before in
     let l = a .before in
     let s = S l in
-    let g = ends-given (T s) (M s) (C s) (I s) (l .loop .parts) (l .loop .mounts) (all a) (l .before .before .if2 .servers) (servers-here (l .before .before)) in
-    (few (l .before .before), (g .0, g .1))
+    let g = ends-given (T s) (M s) (C s) (I s) (l .loop .parts) (l .loop .mounts) (all a) (l .before .before .before .if2 .servers) (servers-here (l .before .before .before)) in
+    (few (l .before .before .before), (g .0, g .1))
 
 returns-2 : tie.Need-returns-2 Inv-loop μ-loop
 returns-2 c =
     let a = c .before .before .before .before .before .before in
     let l = a .before in
     let s = S l in
-    batch-done (T s) (M s) (C s) (I s) (l .loop .parts) (l .loop .mounts) (all a) (l .before .before .if2 .servers) (servers-here (l .before .before)) (c .order .result) (c .order .ensures)
+    batch-done (T s) (M s) (C s) (I s) (l .loop .parts) (l .loop .mounts) (all a) (l .before .before .before .if2 .servers) (servers-here (l .before .before .before)) (c .order .result) (c .order .ensures)
 
 pub lookup-batch-spec : {M : Type 1} → statement M
 lookup-batch-spec =
@@ -205,6 +211,7 @@ lookup-batch-spec =
     returns
     ready-requires
     check-number-requires
+    steps-requires
     begin-requires
     loop-holds
     sub-k
@@ -212,6 +219,7 @@ lookup-batch-spec =
     element-copy-out-step-all
     mul-step-all-2
     element-copy-out-step-all-2
+    slice-aggregate-step-all
     mul-step-all-3
     element-copy-out-step-all-3
     step-all-requires

@@ -14,7 +14,7 @@ takes-requires c κs = search needs
 
 -- the start, and the test of the server before its search
 abbrev S : tie.After-takes → tie.Start
-S x = x .before .before .before .before
+S x = x .before .before .before .before .before
 
 abbrev X : tie.After-newest-on → tie.After-takes
 X n = n .before .before .before

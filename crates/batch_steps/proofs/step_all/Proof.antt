@@ -12,33 +12,33 @@ use Rattle.batch_steps.proofs.step_all.Statement.{statement}
 use Rattle.batch_steps.proofs.step_all.Tie as tie
 
 abbrev Inv-loop : tie.InvT-loop
-Inv-loop read capacity used medium ids server next₀ i₀ next i =
+Inv-loop read steps capacity used medium ids server next₀ i₀ next i =
     (i ≤ length ids) × (next ≡ withParts (steppedAt read capacity used medium ids server next₀) i next₀)
 
 abbrev μ-loop : tie.MeasureT-loop
-μ-loop read capacity used medium ids server next₀ i₀ next i = length ids - i
+μ-loop read steps capacity used medium ids server next₀ i₀ next i = length ids - i
 
 loop-holds : tie.Need-loop-holds Inv-loop μ-loop
 unfolding withParts setBelow
 loop-holds c = (search needs, refl)
 
-mul-t12 : tie.Need-mul-t12 Inv-loop μ-loop
-mul-t12 c = search needs
+mul-t13 : tie.Need-mul-t13 Inv-loop μ-loop
+mul-t13 c = search needs
 
-element-copy-out-t16 : tie.Need-element-copy-out-t16 Inv-loop μ-loop
-element-copy-out-t16 c = search needs
+element-copy-out-t17 : tie.Need-element-copy-out-t17 Inv-loop μ-loop
+element-copy-out-t17 c = search needs
 
-mul-t17 : tie.Need-mul-t17 Inv-loop μ-loop
-mul-t17 c = search needs
+mul-t18 : tie.Need-mul-t18 Inv-loop μ-loop
+mul-t18 c = search needs
 
-element-copy-out-t20 : tie.Need-element-copy-out-t20 Inv-loop μ-loop
-element-copy-out-t20 c = search needs
+element-copy-out-t21 : tie.Need-element-copy-out-t21 Inv-loop μ-loop
+element-copy-out-t21 c = search needs
 
-mul-t21 : tie.Need-mul-t21 Inv-loop μ-loop
-mul-t21 c = search needs
+mul-t22 : tie.Need-mul-t22 Inv-loop μ-loop
+mul-t22 c = search needs
 
-element-copy-out-t24 : tie.Need-element-copy-out-t24 Inv-loop μ-loop
-element-copy-out-t24 c = search needs
+element-copy-out-t25 : tie.Need-element-copy-out-t25 Inv-loop μ-loop
+element-copy-out-t25 c = search needs
 
 mul-step : tie.Need-mul-step Inv-loop μ-loop
 mul-step c = search needs
@@ -54,9 +54,9 @@ shared-slice-read-step c = search needs
 
 -- the start, and the loop's head
 abbrev S : tie.At-loop Inv-loop μ-loop → tie.Start Inv-loop μ-loop
-S q = q .before .before .before
+S q = q .before .before .before .before
 
-abbrev Q : tie.After-shared-slice-known3 Inv-loop μ-loop → tie.At-loop Inv-loop μ-loop
+abbrev Q : tie.After-shared-slice-known4 Inv-loop μ-loop → tie.At-loop Inv-loop μ-loop
 Q c = c .before .before .before .before .before .before
 
 step-requires : tie.Need-step-requires Inv-loop μ-loop
@@ -64,8 +64,8 @@ step-requires c κs =
     let q = Q c in
     let s = S q in
     let same = ap (λ (p : Progress). p .opened) (part-here _ _ _ _ _ _ _ _ (q .loop .inv .1)) in
-    let few : nth (q .loop .next .opened) (q .loop .i) ≤ 256 = rw same (s .pre .1 .1 .1 (q .loop .i) (c .before .before .before .before .before .loop-test .taken)) in
-    (s .pre .0, (s .pre .1 .0, few))
+    let few : nth (q .loop .next .opened) (q .loop .i) ≤ 256 = rw same (s .pre .1 .1 .1 .0 (q .loop .i) (c .before .before .before .before .before .loop-test .taken)) in
+    (s .pre .0, (s .pre .1 .0, (few, s .pre .1 .1 .1 .1)))
 
 mul-next : tie.Need-mul-next Inv-loop μ-loop
 mul-next c = search needs
@@ -114,12 +114,12 @@ step-all-spec =
     Inv-loop
     μ-loop
     loop-holds
-    mul-t12
-    element-copy-out-t16
-    mul-t17
-    element-copy-out-t20
-    mul-t21
-    element-copy-out-t24
+    mul-t13
+    element-copy-out-t17
+    mul-t18
+    element-copy-out-t21
+    mul-t22
+    element-copy-out-t25
     mul-step
     element-copy-out-step
     mul-step-2

@@ -11,7 +11,7 @@ abbrev S : tie.Else3 → tie.Start
 S c = c .before .before .before .before .before .before .before
 
 abbrev E : tie.After-run → tie.Else3
-E c = c .before .before .before .before .before .before .before
+E c = c .before .before .before .before .before .before .before .before .before
 
 returns : tie.Need-returns
 returns c = let a = c .before .before .before .before .before .args in table-short (a .table .now) (a .medium .now) (a .call .now) (a .reply .now) (c .if1 .taken)
@@ -25,6 +25,12 @@ returns-3 : tie.Need-returns-3
 returns-3 c =
     let a = c .before .before .before .before .before .before .before .args in
     reply-short (a .table .now) (a .medium .now) (a .call .now) (a .reply .now) (c .before .before .if1 .left) (c .before .if2 .left) (c .if3 .taken)
+
+steps-requires : tie.Need-steps-requires
+steps-requires c κs = search needs
+
+slice-aggregate-run : tie.Need-slice-aggregate-run
+slice-aggregate-run c = search needs
 
 shared-slice-read-run : tie.Need-shared-slice-read-run
 shared-slice-read-run c = search needs
@@ -72,6 +78,8 @@ call-spec =
     returns
     returns-2
     returns-3
+    steps-requires
+    slice-aggregate-run
     shared-slice-read-run
     shared-slice-read-run-2
     shared-slice-read-run-3

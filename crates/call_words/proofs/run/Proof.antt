@@ -13,10 +13,10 @@ abbrev T : tie.After-run-change → tie.After-table-from
 T c = c .before .before
 
 abbrev S : tie.After-table-from → tie.Start
-S c = c .before .before .before .before .before
+S c = c .before .before .before .before .before .before
 
 abbrev W : tie.After-run-on → tie.Start
-W c = c .before .before .before .before .before .before
+W c = c .before .before .before .before .before .before .before
 
 table-from-requires : tie.Need-table-from-requires
 table-from-requires c κs = search needs
@@ -27,7 +27,7 @@ run-change-requires c κs = search needs
 store-table-requires : tie.Need-store-table-requires
 store-table-requires c κs =
     let r = c .before .before .before in
-    (S (T r) .pre, count-fits _ _ _ (r .run-change .ensures .1 .0 (S (T r) .args .tenant)) (T r .table-from .ensures .1))
+    (S (T r) .pre .0, count-fits _ _ _ (r .run-change .ensures .1 .0 (S (T r) .args .tenant)) (T r .table-from .ensures .1))
 
 same-length : tie.Need-same-length
 same-length c = search needs
@@ -43,13 +43,13 @@ returns c =
     by-value (a .table .now) (a .medium .now) _ _ _ _ _ _ (T r .table-from .ensures .0) (r .run-change .ensures .0 (a .tenant)) (r .run-change .ensures .1 .0 (a .tenant)) (r .run-change .ensures .1 .1 (a .tenant)) (w .store-table .ensures)
 
 run-on-requires : tie.Need-run-on-requires
-run-on-requires c κs = search needs
+run-on-requires c κs = (search needs, (search needs, search needs))
 
 count-requires : tie.Need-count-requires
 count-requires c κs =
     let r = c .before .before .before in
     let a = W r .args in
-    (W r .pre, counts-there (a .table .now) (a .medium .now) (a .number) (a .tenant) (a .subject) (a .amount) (W r .pre) _ (r .run-on .ensures .0))
+    (W r .pre .0, counts-there (a .table .now) (a .medium .now) (a .number) (a .tenant) (a .subject) (a .amount) (W r .pre .0) _ (r .run-on .ensures .0))
 
 same-length-3 : tie.Need-same-length-3
 same-length-3 c = search needs
@@ -64,7 +64,7 @@ returns-2 c =
     let a = W r .args in
     let one : a .number ≢ addServerNumber = λ e. omega (arith, r .before .before .before .if1 .left) in
     let two : a .number ≢ reweightNumber = λ e. omega (arith, r .before .before .before .if1 .left) in
-    (r .run-on .ensures .0, (n .count .ensures ∙ counted-words (a .table .now) (a .medium .now) (a .number) (a .tenant) (a .subject) (a .amount) (W r .pre) _ (r .run-on .ensures .0) one two, r .run-on .ensures .1))
+    (r .run-on .ensures .0, (n .count .ensures ∙ counted-words (a .table .now) (a .medium .now) (a .number) (a .tenant) (a .subject) (a .amount) (W r .pre .0) _ (r .run-on .ensures .0) one two, r .run-on .ensures .1))
 
 pub run-spec : {M : Type 1} → statement M
 run-spec =

@@ -5,50 +5,50 @@ use Rattle.table_words.specs.Words.{tableFrom}
 use Rattle.call_words.proofs.run_on.Statement.{statement}
 use Rattle.call_words.proofs.run_on.Tie as tie
 
-shared-slice-read-t10 : tie.Need-shared-slice-read-t10
-shared-slice-read-t10 c = search needs
+shared-slice-read-t11 : tie.Need-shared-slice-read-t11
+shared-slice-read-t11 c = search needs
 
-shared-slice-read-t12 : tie.Need-shared-slice-read-t12
-shared-slice-read-t12 c = search needs
+shared-slice-read-t13 : tie.Need-shared-slice-read-t13
+shared-slice-read-t13 c = search needs
 
-cast-t13 : tie.Need-cast-t13
-cast-t13 c = omega (arith, c .shared-slice-known3 .given 1)
+cast-t14 : tie.Need-cast-t14
+cast-t14 c = omega (arith, c .shared-slice-known4 .given 1)
 
-sub-t13 : tie.Need-sub-t13
-sub-t13 c = search needs
+sub-t14 : tie.Need-sub-t14
+sub-t14 c = search needs
 
-part-t15-start : tie.Need-part-t15-start
-part-t15-start c = search needs
+part-t16-start : tie.Need-part-t16-start
+part-t16-start c = search needs
 
-part-t15-end : tie.Need-part-t15-end
-part-t15-end c = search needs
+part-t16-end : tie.Need-part-t16-end
+part-t16-end c = search needs
 
-sub-t18 : tie.Need-sub-t18
-sub-t18 c = search needs
+sub-t19 : tie.Need-sub-t19
+sub-t19 c = search needs
 
-part-t19-start : tie.Need-part-t19-start
-part-t19-start c = search needs
+part-t20-start : tie.Need-part-t20-start
+part-t20-start c = search needs
 
-part-t19-end : tie.Need-part-t19-end
-part-t19-end c = search needs
+part-t20-end : tie.Need-part-t20-end
+part-t20-end c = search needs
 
-sub-t22 : tie.Need-sub-t22
-sub-t22 c = search needs
+sub-t23 : tie.Need-sub-t23
+sub-t23 c = search needs
 
-part-t23-start : tie.Need-part-t23-start
-part-t23-start c = search needs
+part-t24-start : tie.Need-part-t24-start
+part-t24-start c = search needs
 
-part-t23-end : tie.Need-part-t23-end
-part-t23-end c = search needs
+part-t24-end : tie.Need-part-t24-end
+part-t24-end c = search needs
 
-sub-t26 : tie.Need-sub-t26
-sub-t26 c = search needs
+sub-t27 : tie.Need-sub-t27
+sub-t27 c = search needs
 
-part-t27-start : tie.Need-part-t27-start
-part-t27-start c = search needs
+part-t28-start : tie.Need-part-t28-start
+part-t28-start c = search needs
 
-part-t27-end : tie.Need-part-t27-end
-part-t27-end c = search needs
+part-t28-end : tie.Need-part-t28-end
+part-t28-end c = search needs
 
 run-in-requires : tie.Need-run-in-requires
 run-in-requires c κs = search needs
@@ -64,21 +64,21 @@ pub run-on-spec : {M : Type 1} → statement M
 run-on-spec =
     tie.close
     (tie.spec
-    shared-slice-read-t10
-    shared-slice-read-t12
-    cast-t13
-    sub-t13
-    part-t15-start
-    part-t15-end
-    sub-t18
-    part-t19-start
-    part-t19-end
-    sub-t22
-    part-t23-start
-    part-t23-end
-    sub-t26
-    part-t27-start
-    part-t27-end
+    shared-slice-read-t11
+    shared-slice-read-t13
+    cast-t14
+    sub-t14
+    part-t16-start
+    part-t16-end
+    sub-t19
+    part-t20-start
+    part-t20-end
+    sub-t23
+    part-t24-start
+    part-t24-end
+    sub-t27
+    part-t28-start
+    part-t28-end
     run-in-requires
     same-length
     returns)

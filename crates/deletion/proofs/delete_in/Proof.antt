@@ -24,7 +24,7 @@ enum-known-check c = search needs
 
 -- the call's arguments
 abbrev S : tie.After-asked → tie.Start
-S c = c .before .before .before
+S c = c .before .before .before .before
 
 abbrev T : tie.After-asked → Table
 T c = let a = S c .args in tableOf (a .shape) (a .columns)
@@ -53,7 +53,9 @@ enum-told : tie.Need-enum-told
 enum-told c = search needs
 
 invalidate-requires : tie.Need-invalidate-requires
-invalidate-requires c κs = (S (c .before .before .before) .pre, (asked-ready _ _ _ _ _ (accepted-here (c .before)) .inside, search needs))
+invalidate-requires c κs =
+    let s = S (c .before .before .before) in
+    (s .pre .0, (asked-ready _ _ _ _ _ (accepted-here (c .before)) .inside, (search needs, s .pre .1)))
 
 -- where the tests were accepted
 abbrev E : tie.After-invalidate → tie.After-enum-told

@@ -57,8 +57,8 @@ returns-4 : tie.Need-returns-4
 unfolding replyTo nextBy
 returns-4 c =
     let k = c .before in
-    let s = k .before .before in
-    let e = no-call (s .args .number) (s .args .tenant) (s .args .subject) (s .args .amount) (s .pre .1 .0) (s .pre .1 .1) (k .match .rest .0 .0 .1) (k .match .rest .0 .1) (k .match .rest .1) in
+    let s = k .before .before .before in
+    let e = no-call (s .args .number) (s .args .tenant) (s .args .subject) (s .args .amount) (s .pre .1 .1 .0) (s .pre .1 .1 .1) (k .match .rest .0 .0 .1) (k .match .rest .0 .1) (k .match .rest .1) in
     rw e (c .no-call .ensures, refl)
 
 pub run-in-spec : {M : Type 1} → statement M

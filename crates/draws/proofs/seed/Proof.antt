@@ -14,7 +14,7 @@ wrapping-add-u32-requires : tie.Need-wrapping-add-u32-requires
 wrapping-add-u32-requires c κs = search needs
 
 -- the wrapped sum is the definition's
-sum-here : (c : tie.After-wrapping-add-u32) → (c .before .before .args .id + stepOf (c .before .before .args .server)) % modulus ≡ c .wrapping-add-u32 .result
+sum-here : (c : tie.After-wrapping-add-u32) → (c .before .before .before .args .id + stepOf (c .before .before .before .args .server)) % modulus ≡ c .wrapping-add-u32 .result
 sum-here c = cc
 
 returns : tie.Need-returns

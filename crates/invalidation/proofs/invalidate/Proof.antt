@@ -19,16 +19,16 @@ abbrev passes : Table → ℕ → ℕ → ℕ → Bool
 passes t id from k = leb from k && reads t id k
 
 abbrev Inv-loop : tie.InvT-loop
-Inv-loop medium₀ t3 id from content capacity count used numerators denominators entries n₀ k₀ medium n k =
+Inv-loop medium₀ t3 steps id from content capacity count used numerators denominators entries n₀ k₀ medium n k =
     let t = tableOf (record { capacity = capacity; count = count }) t3 in
     Left capacity count (usedOf t) medium₀ id (passes t id from) content k medium n
 
 abbrev μ-loop : tie.MeasureT-loop
-μ-loop medium₀ t3 id from content capacity count used numerators denominators entries n₀ k₀ medium n k = k
+μ-loop medium₀ t3 steps id from content capacity count used numerators denominators entries n₀ k₀ medium n k = k
 
 -- the start, and the loop's head
 abbrev S : tie.At-loop Inv-loop μ-loop → tie.Start Inv-loop μ-loop
-S l = l .before .before .before .before .before
+S l = l .before .before .before .before .before .before
 
 abbrev L : tie.After-takes Inv-loop μ-loop → tie.At-loop Inv-loop μ-loop
 L c = c .before .before .before .before
@@ -60,17 +60,17 @@ loop-holds c = search needs
 sub-k : tie.Need-sub-k Inv-loop μ-loop
 sub-k c = search needs
 
-mul-t25 : tie.Need-mul-t25 Inv-loop μ-loop
-mul-t25 c = search needs
+mul-t26 : tie.Need-mul-t26 Inv-loop μ-loop
+mul-t26 c = search needs
 
-shared-slice-read-t27 : tie.Need-shared-slice-read-t27 Inv-loop μ-loop
-shared-slice-read-t27 c = search needs
+shared-slice-read-t28 : tie.Need-shared-slice-read-t28 Inv-loop μ-loop
+shared-slice-read-t28 c = search needs
 
-mul-t28 : tie.Need-mul-t28 Inv-loop μ-loop
-mul-t28 c = search needs
+mul-t29 : tie.Need-mul-t29 Inv-loop μ-loop
+mul-t29 c = search needs
 
-shared-slice-read-t30 : tie.Need-shared-slice-read-t30 Inv-loop μ-loop
-shared-slice-read-t30 c = search needs
+shared-slice-read-t31 : tie.Need-shared-slice-read-t31 Inv-loop μ-loop
+shared-slice-read-t31 c = search needs
 
 takes-requires : tie.Need-takes-requires Inv-loop μ-loop
 takes-requires c κs = search needs
@@ -88,7 +88,7 @@ invalidate-server-requires : tie.Need-invalidate-server-requires Inv-loop μ-loo
 invalidate-server-requires c κs =
     let x = c .before .before .before in
     let l = L x in
-    (left-inside (l .loop .inv) (S l .pre .1 .0) (omega arith), (fits-here x, S l .pre .1 .1))
+    (left-inside (l .loop .inv) (S l .pre .1 .0) (omega arith), (fits-here x, S l .pre .1 .1 .0))
 
 add-n : tie.Need-add-n Inv-loop μ-loop
 add-n c =
@@ -135,10 +135,10 @@ invalidate-spec =
     cast-entries
     loop-holds
     sub-k
-    mul-t25
-    shared-slice-read-t27
-    mul-t28
-    shared-slice-read-t30
+    mul-t26
+    shared-slice-read-t28
+    mul-t29
+    shared-slice-read-t31
     takes-requires
     mul-invalidate-server
     shared-slice-read-invalidate-server

@@ -29,7 +29,7 @@ enum-known-check c = search needs
 
 -- the call's arguments
 abbrev S : tie.After-asked → tie.Start
-S c = c .before .before
+S c = c .before .before .before
 
 abbrev T : tie.After-asked → Table
 T c = let a = S c .args in tableOf (a .shape) (a .columns)
@@ -59,7 +59,7 @@ ready-here : (c : tie.After-enum-told) → Ready (T (c .before .before)) (M (c .
 ready-here c = lookup-accepted _ _ _ _ (accepted-here c)
 
 find-requires : tie.Need-find-requires
-find-requires c κs = (S (c .before .before) .pre, ready-here c .inside)
+find-requires c κs = let s = S (c .before .before) in (s .pre .0, (ready-here c .inside, s .pre .1))
 
 -- where the search's answer is known
 abbrev E : tie.After-find → tie.After-enum-told

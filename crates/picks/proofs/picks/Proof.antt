@@ -14,21 +14,21 @@ use Rattle.picks.proofs.picks.Statement.{statement}
 use Rattle.picks.proofs.picks.Tie as tie
 
 abbrev Inv-loop : tie.InvT-loop
-Inv-loop weights ids servers₀ count n i₀ servers i =
+Inv-loop weights ids servers₀ steps count n i₀ servers i =
     (i ≤ n) × (servers ≡ setBelow (serverOf weights ids) i servers₀) × (length servers ≡ length servers₀)
 
 abbrev μ-loop : tie.MeasureT-loop
-μ-loop weights ids servers₀ count n i₀ servers i = n - i
+μ-loop weights ids servers₀ steps count n i₀ servers i = n - i
 
 -- the start, the branch where the weights are bounded, and the loop's head
 abbrev S : tie.Else1 Inv-loop μ-loop → tie.Start Inv-loop μ-loop
 S c = c .before .before .before .before .before
 
 abbrev B : tie.At-loop Inv-loop μ-loop → tie.Else1 Inv-loop μ-loop
-B l = l .before .before
+B l = l .before .before .before
 
 abbrev L : tie.After-write-server Inv-loop μ-loop → tie.At-loop Inv-loop μ-loop
-L c = c .before .before .before
+L c = c .before .before .before .before
 
 are-bounded : (c : tie.Else1 Inv-loop μ-loop) → bounded (S c .args .weights .now) ≡ true
 are-bounded c = sym (c .before .are-bounded .ensures) ∙ not-false _ (c .if1 .left)
@@ -41,12 +41,18 @@ returns c =
     let a = c .before .before .before .before .before .args in
     none-picked (a .weights .now) (a .ids .now) (a .servers .now) (sym (c .before .are-bounded .ensures) ∙ not-true _ (c .if1 .taken))
 
+steps-requires : tie.Need-steps-requires Inv-loop μ-loop
+steps-requires c κs = search needs
+
 lesser-requires : tie.Need-lesser-requires Inv-loop μ-loop
 lesser-requires c κs = search needs
 
 loop-holds : tie.Need-loop-holds Inv-loop μ-loop
 unfolding setBelow
 loop-holds c = (search needs, refl, refl)
+
+slice-aggregate-write-server : tie.Need-slice-aggregate-write-server Inv-loop μ-loop
+slice-aggregate-write-server c = search needs
 
 mul-write-server : tie.Need-mul-write-server Inv-loop μ-loop
 mul-write-server c = search needs
@@ -55,7 +61,9 @@ shared-slice-read-write-server : tie.Need-shared-slice-read-write-server Inv-loo
 shared-slice-read-write-server c = search needs
 
 write-server-requires : tie.Need-write-server-requires Inv-loop μ-loop
-write-server-requires c κs = let b = B (c .before .before) in bounded-facts (S b .args .weights .now) (are-bounded b)
+write-server-requires c κs =
+    let b = B (c .before .before .before) in
+    (bounded-facts (S b .args .weights .now) (are-bounded b), search needs)
 
 -- the write server of the id that the loop stands at
 picked : (c : tie.After-write-server Inv-loop μ-loop) → c .write-server .result ≡ serverOf (S (B (L c)) .args .weights .now) (S (B (L c)) .args .ids .now) (L c .loop .i)
@@ -102,8 +110,10 @@ picks-spec =
     μ-loop
     are-bounded-requires
     returns
+    steps-requires
     lesser-requires
     loop-holds
+    slice-aggregate-write-server
     mul-write-server
     shared-slice-read-write-server
     write-server-requires

@@ -13,7 +13,7 @@ exceeds-requires : tie.Need-exceeds-requires
 exceeds-requires c κs = search needs
 
 returns : tie.Need-returns
-returns c = c .exceeds .ensures ∙ ap (exceeds modulus (c .before .before .args .f)) (c .before .draw .ensures)
+returns c = c .exceeds .ensures ∙ ap (exceeds modulus (c .before .before .before .args .f)) (c .before .draw .ensures)
 
 pub takes-spec : {M : Type 1} → statement M
 takes-spec = tie.close (tie.spec draw-requires exceeds-requires returns)

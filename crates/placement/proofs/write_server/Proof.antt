@@ -15,12 +15,12 @@ use Rattle.placement.proofs.write_server.Statement.{statement}
 use Rattle.placement.proofs.write_server.Tie as tie
 
 abbrev Inv-loop : tie.InvT-loop
-Inv-loop weights count id sum₀ k₀ sum k =
+Inv-loop weights steps count id sum₀ k₀ sum k =
     (k ≤ 256) × (k ≤ length weights) × (sum ≡ total (nth weights) k)
     × (writeServer (nth weights) count id ≡ orZero (highest (takes modulus (drawOf id) (writeP (nth weights))) k))
 
 abbrev μ-loop : tie.MeasureT-loop
-μ-loop weights count id sum₀ k₀ sum k = k
+μ-loop weights steps count id sum₀ k₀ sum k = k
 
 sum-weights-requires : tie.Need-sum-weights-requires Inv-loop μ-loop
 sum-weights-requires c κs = search needs
@@ -49,7 +49,7 @@ abbrev L : tie.After-takes Inv-loop μ-loop → tie.At-loop Inv-loop μ-loop
 L c = c .before .before .before .before
 
 abbrev S : tie.At-loop Inv-loop μ-loop → tie.Start Inv-loop μ-loop
-S l = l .before .before .before
+S l = l .before .before .before .before
 
 abbrev W : tie.At-loop Inv-loop μ-loop → ℕ → ℕ
 W l = nth (S l .args .weights .now)

@@ -39,7 +39,7 @@ asked-requires c κs = search needs
 
 -- the table and the medium that are tested, and the rows
 abbrev S : tie.After-asked → tie.Start
-S c = c .before .before .before .before
+S c = c .before .before .before .before .before
 
 abbrev T : tie.After-asked → Table
 T c = let a = S c .args in tableOf (a .shape) (a .t2)
@@ -90,7 +90,7 @@ unfolding writeRows
 rest c = first-later (shared (R c)) _ (asked-numbered (T (R c)) (M (R c)) (tenant (R c)) (id (R c)) (outside (R c))) (accepted c)
 
 write-server-requires : tie.Need-write-server-requires
-write-server-requires c κs = sound-bounded (T (R c)) (S (R c) .pre .weights) (sound-facts (T (R c)) (ready c .isSound))
+write-server-requires c κs = (sound-bounded (T (R c)) (S (R c) .pre .0 .weights) (sound-facts (T (R c)) (ready c .isSound)), S (R c) .pre .1)
 
 -- the server picked is the write server, and it is there
 abbrev E : tie.After-write-server → tie.After-enum-told

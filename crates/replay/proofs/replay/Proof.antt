@@ -50,11 +50,17 @@ store-table-requires c κs =
     let b = B w in
     (long w, start-count (S b .args .capacity) _ (b .start .ensures .1))
 
+steps-requires : tie.Need-steps-requires
+steps-requires c κs = search needs
+
 slice-aggregate-run-calls : tie.Need-slice-aggregate-run-calls
 slice-aggregate-run-calls c = search needs
 
+slice-aggregate-run-calls-2 : tie.Need-slice-aggregate-run-calls-2
+slice-aggregate-run-calls-2 c = search needs
+
 run-calls-requires : tie.Need-run-calls-requires
-run-calls-requires c κs = search needs
+run-calls-requires c κs = (search needs, (c .before .before .before .before .steps .ensures .0, search needs))
 
 same-length : tie.Need-same-length
 same-length c = search needs
@@ -65,7 +71,7 @@ same-length-2 c = search needs
 returns-2 : tie.Need-returns-2
 returns-2 c =
     let r = c .before .before .before .before .before in
-    let t = r .before .before .before .before .before in
+    let t = r .before .before .before .before .before .before .before in
     let w = t .before .before in
     let n = w .before in
     let b = B w in
@@ -87,7 +93,9 @@ replay-spec =
     zero-words-requires
     slice-aggregate-store-table
     store-table-requires
+    steps-requires
     slice-aggregate-run-calls
+    slice-aggregate-run-calls-2
     run-calls-requires
     same-length
     same-length-2

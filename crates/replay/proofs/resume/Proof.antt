@@ -16,8 +16,14 @@ returns c =
 room-requires : tie.Need-room-requires
 room-requires c κs = search needs
 
+steps-requires : tie.Need-steps-requires
+steps-requires c κs = search needs
+
+slice-aggregate-run-calls : tie.Need-slice-aggregate-run-calls
+slice-aggregate-run-calls c = search needs
+
 run-calls-requires : tie.Need-run-calls-requires
-run-calls-requires c κs = search needs
+run-calls-requires c κs = (search needs, (search needs, search needs))
 
 same-length : tie.Need-same-length
 same-length c = search needs
@@ -31,7 +37,7 @@ same-length-3 c = search needs
 returns-2 : tie.Need-returns-2
 returns-2 c =
     let r = c .before .before .before .before .before .before in
-    let n = r .before .before .before .before in
+    let n = r .before .before .before .before .before .before in
     let a = S (n .before) .args in
     (room-resumed (a .table .now) (a .medium .now) (a .calls .now) (a .replies .now) _ (n .before .if1 .left) (n .room .ensures), (r .run-calls .ensures .0, (r .run-calls .ensures .1 .0, r .run-calls .ensures .1 .1)))
 
@@ -41,6 +47,8 @@ resume-spec =
     (tie.spec
     returns
     room-requires
+    steps-requires
+    slice-aggregate-run-calls
     run-calls-requires
     same-length
     same-length-2

@@ -13,17 +13,17 @@ use Rattle.replay.proofs.run_calls.Statement.{statement}
 use Rattle.replay.proofs.run_calls.Tie as tie
 
 abbrev Inv-loop : tie.InvT-loop
-Inv-loop table₀ calls medium₀ replies₀ n end at₀ table medium replies at =
+Inv-loop table₀ steps calls medium₀ replies₀ n end at₀ table medium replies at =
     (end ≡ callLength * n) × (tableLength ≤ length table₀) × ReplayedTo table₀ medium₀ calls replies₀ n at table medium replies
 
 abbrev μ-loop : tie.MeasureT-loop
-μ-loop table₀ calls medium₀ replies₀ n end at₀ table medium replies at = end - at
+μ-loop table₀ steps calls medium₀ replies₀ n end at₀ table medium replies at = end - at
 
 mul-end : tie.Need-mul-end Inv-loop μ-loop
 mul-end c = search needs
 
 loop-holds : tie.Need-loop-holds Inv-loop μ-loop
-loop-holds c = let s = c .before .before .before .before in (search needs, s .pre .0, none-to _ _ _ _ _ (s .pre .0))
+loop-holds c = let s = c .before .before .before .before .before in (search needs, s .pre .0, none-to _ _ _ _ _ (s .pre .0))
 
 add-run : tie.Need-add-run Inv-loop μ-loop
 add-run c = search needs
@@ -66,15 +66,17 @@ abbrev L : tie.After-run Inv-loop μ-loop → tie.At-loop Inv-loop μ-loop
 L c = c .before .before .before .before .before .before .before .before
 
 run-requires : tie.Need-run-requires Inv-loop μ-loop
-run-requires c κs = let l = c .before .before .before .before .before .before .before in omega (arith, l .loop .inv .1, l .loop .inv .2 .done .sameTable)
+run-requires c κs =
+    let l = c .before .before .before .before .before .before .before in
+    (omega (arith, l .loop .inv .1, l .loop .inv .2 .done .sameTable), l .before .before .before .before .before .before .pre .1 .0)
 
 store-requires : tie.Need-store-requires Inv-loop μ-loop
 store-requires c κs =
     let r = c .before .before .before .before .before in
     let l = L r in
-    let s = l .before .before .before .before .before in
+    let s = l .before .before .before .before .before .before in
     let d = l .loop .inv .2 in
-    (omega (arith, l .loop .inv .0, d .begins, d .few, d .done .sameReplies, s .pre .1 .1, r .before .before .before .before .before .before .before .loop-test .taken), called-small _ _ (r .run .result) (r .run .ensures .0))
+    (omega (arith, l .loop .inv .0, d .begins, d .few, d .done .sameReplies, s .pre .1 .1 .1, r .before .before .before .before .before .before .before .loop-test .taken), called-small _ _ (r .run .result) (r .run .ensures .0))
 
 add-at : tie.Need-add-at Inv-loop μ-loop
 add-at c = search needs
@@ -88,7 +90,7 @@ loop-again c =
     let r = s .before .before .before .before .before .before in
     let l = L r in
     let i = l .loop .inv in
-    (i .0, i .1, one-to _ _ _ _ _ (i .1) (l .loop .at) (l .loop .table) _ (l .loop .medium) _ (l .loop .replies) _ _ (i .2) (r .before .before .before .before .before .before .before .loop-test .taken) (r .run .ensures .0) (r .run .ensures .1 .0) (r .run .ensures .1 .1) (r .run .kept .1 .0) (s .store .ensures))
+    (i .0, i .1, one-to _ _ _ _ _ (i .1) (l .loop .at) (l .loop .table) _ (l .loop .medium) _ (l .loop .replies) _ _ (i .2) (r .before .before .before .before .before .before .before .loop-test .taken) (r .run .ensures .0) (r .run .ensures .1 .0) (r .run .ensures .1 .1) (r .run .kept .1 .1 .0) (s .store .ensures))
 
 same-length : tie.Need-same-length Inv-loop μ-loop
 same-length c = c .before .loop .inv .2 .done .sameTable
@@ -103,7 +105,7 @@ returns : tie.Need-returns Inv-loop μ-loop
 returns c =
     let l = c .before in
     let d = l .loop .inv .2 in
-    let e : d .index ≡ l .before .before .before .before .before .args .n = omega (arith, l .loop .inv .0, d .begins, d .few) in
+    let e : d .index ≡ l .before .before .before .before .before .before .args .n = omega (arith, l .loop .inv .0, d .begins, d .few) in
     rw (← e) (d .done .table, (ap (λ (S : State). S .medium) (d .done .state), d .done .stored))
 
 pub run-calls-spec : {M : Type 1} → statement M

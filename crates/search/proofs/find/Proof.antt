@@ -18,26 +18,26 @@ use Rattle.search.proofs.find.Statement.{statement}
 use Rattle.search.proofs.find.Tie as tie
 
 abbrev Inv-loop : tie.InvT-loop
-Inv-loop t2 medium id capacity count used numerators denominators entries met₀ opened j₀ k met j =
+Inv-loop t2 steps medium id capacity count used numerators denominators entries met₀ opened j₀ k met j =
     (j ≤ nth (column t2 1) k) × (met ≡ false)
     × (let t = tableOf (record { capacity = capacity; count = count }) t2 in
     answerOf (searchFor t medium id) ≡ entriesLeft t medium id opened k j)
 
 abbrev μ-loop : tie.MeasureT-loop
-μ-loop t2 medium id capacity count used numerators denominators entries met₀ opened j₀ k met j = j
+μ-loop t2 steps medium id capacity count used numerators denominators entries met₀ opened j₀ k met j = j
 
 abbrev Inv-search : tie.InvT-search
-Inv-search t2 medium id capacity count used numerators denominators entries met₀ opened₀ j₀ k₀ met opened j k =
+Inv-search t2 steps medium id capacity count used numerators denominators entries met₀ opened₀ j₀ k₀ met opened j k =
     (opened + k ≤ count) × (met ≡ false)
     × (let t = tableOf (record { capacity = capacity; count = count }) t2 in
     answerOf (searchFor t medium id) ≡ serversLeft t medium id opened k)
 
 abbrev μ-search : tie.MeasureT-search
-μ-search t2 medium id capacity count used numerators denominators entries met₀ opened₀ j₀ k₀ met opened j k = k
+μ-search t2 steps medium id capacity count used numerators denominators entries met₀ opened₀ j₀ k₀ met opened j k = k
 
 -- places: the start, the outer loop's head, the test of the server and the inner loop's head
 abbrev S : tie.At-search Inv-loop μ-loop Inv-search μ-search → tie.Start Inv-loop μ-loop Inv-search μ-search
-S q = q .before .before .before .before .before
+S q = q .before .before .before .before .before .before
 
 abbrev Q : tie.After-takes Inv-loop μ-loop Inv-search μ-search → tie.At-search Inv-loop μ-loop Inv-search μ-search
 Q c = c .before .before .before .before
@@ -80,17 +80,17 @@ search-holds c = (search needs, refl, all-left _ _ _)
 sub-k : tie.Need-sub-k Inv-loop μ-loop Inv-search μ-search
 sub-k c = search needs
 
-mul-t25 : tie.Need-mul-t25 Inv-loop μ-loop Inv-search μ-search
-mul-t25 c = search needs
+mul-t26 : tie.Need-mul-t26 Inv-loop μ-loop Inv-search μ-search
+mul-t26 c = search needs
 
-shared-slice-read-t27 : tie.Need-shared-slice-read-t27 Inv-loop μ-loop Inv-search μ-search
-shared-slice-read-t27 c = search needs
+shared-slice-read-t28 : tie.Need-shared-slice-read-t28 Inv-loop μ-loop Inv-search μ-search
+shared-slice-read-t28 c = search needs
 
-mul-t28 : tie.Need-mul-t28 Inv-loop μ-loop Inv-search μ-search
-mul-t28 c = search needs
+mul-t29 : tie.Need-mul-t29 Inv-loop μ-loop Inv-search μ-search
+mul-t29 c = search needs
 
-shared-slice-read-t30 : tie.Need-shared-slice-read-t30 Inv-loop μ-loop Inv-search μ-search
-shared-slice-read-t30 c = search needs
+shared-slice-read-t31 : tie.Need-shared-slice-read-t31 Inv-loop μ-loop Inv-search μ-search
+shared-slice-read-t31 c = search needs
 
 takes-requires : tie.Need-takes-requires Inv-loop μ-loop Inv-search μ-search
 takes-requires c κs = search needs
@@ -106,7 +106,7 @@ shared-slice-read-j c = search needs
 
 -- that server has no more entries used than a server has
 used-here : (q : tie.At-search Inv-loop μ-loop Inv-search μ-search) → 0 < q .search .k → nth (column (S q .args .t2) 1) (K q) ≤ S q .args .shape .capacity
-used-here q l = S q .pre .1 .fits (K q) (omega arith)
+used-here q l = S q .pre .1 .0 .fits (K q) (omega arith)
 
 cast-j : tie.Need-cast-j Inv-loop μ-loop Inv-search μ-search
 cast-j c = let q = Q (c .before .before) in omega (arith, used-here q (search needs))
@@ -140,7 +140,7 @@ entry-at-requires : tie.Need-entry-at-requires Inv-loop μ-loop Inv-search μ-se
 entry-at-requires c κs =
     let q = Q (X (c .before)) in
     let u = used-here q (search needs) in
-    (S q .pre .1 .small, omega arith, omega arith)
+    (S q .pre .1 .0 .small, omega arith, omega arith)
 
 bears-requires : tie.Need-bears-requires Inv-loop μ-loop Inv-search μ-search
 bears-requires c κs =
@@ -148,7 +148,7 @@ bears-requires c κs =
     let q = Q (X l) in
     let a = S q .args in
     let u = used-here q (search needs) in
-    let i = each-inside (a .shape .capacity) (a .shape .count) (K q) (nth (column (a .t2) 1)) (M q) (S q .pre .1) (search needs) in
+    let i = each-inside (a .shape .capacity) (a .shape .count) (K q) (nth (column (a .t2) 1)) (M q) (S q .pre .1 .0) (search needs) in
     omega (arith, c .entry-at .ensures, entry-inside (a .shape .capacity) (K q) (l .loop .j - 1) 2 (M q) i (omega arith) (omega arith))
 
 loop-less : tie.Need-loop-less Inv-loop μ-loop Inv-search μ-search
@@ -213,10 +213,10 @@ find-spec =
     cast-entries
     search-holds
     sub-k
-    mul-t25
-    shared-slice-read-t27
-    mul-t28
-    shared-slice-read-t30
+    mul-t26
+    shared-slice-read-t28
+    mul-t29
+    shared-slice-read-t31
     takes-requires
     add-opened
     mul-j

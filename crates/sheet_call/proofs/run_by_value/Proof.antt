@@ -10,7 +10,7 @@ use Rattle.sheet_call.proofs.run_by_value.Tie as tie
 
 -- the branch of the calls on borrowed columns, its start, and the state there
 abbrev E : tie.After-run-in → tie.Else1
-E r = r .before .before .before .before .before .before .before .before .before .before .before
+E r = r .before .before .before .before .before .before .before .before .before .before .before .before .before
 
 abbrev A : tie.After-run-in → tie.Start
 A r = E r .before .before
@@ -30,8 +30,14 @@ returns c =
     let t = r .before .before .before .before .args .tenant in
     (r .run-change .ensures .0 t, (r .run-change .ensures .1 .0 t, r .run-change .ensures .1 .1 t))
 
+steps-requires : tie.Need-steps-requires
+steps-requires c κs = search needs
+
+slice-aggregate-run-in : tie.Need-slice-aggregate-run-in
+slice-aggregate-run-in c = search needs
+
 run-in-requires : tie.Need-run-in-requires
-run-in-requires c κs = search needs
+run-in-requires c κs = (search needs, (search needs, search needs))
 
 count-in-requires : tie.Need-count-in-requires
 count-in-requires c κs =
@@ -57,6 +63,8 @@ run-by-value-spec =
     run-change-requires
     same-length
     returns
+    steps-requires
+    slice-aggregate-run-in
     run-in-requires
     count-in-requires
     same-length-2

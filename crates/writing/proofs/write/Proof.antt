@@ -9,6 +9,12 @@ use Rattle.writing.proofs.Done.{answered-written, answered-refused}
 use Rattle.writing.proofs.write.Statement.{statement}
 use Rattle.writing.proofs.write.Tie as tie
 
+steps-requires : tie.Need-steps-requires
+steps-requires c κs = search needs
+
+slice-aggregate-write-in : tie.Need-slice-aggregate-write-in
+slice-aggregate-write-in c = search needs
+
 write-in-requires : tie.Need-write-in-requires
 write-in-requires c κs = search needs
 
@@ -23,7 +29,7 @@ abbrev W : tie.After-slice-known2 → tie.After-write-in
 W c = c .before .before
 
 abbrev S : tie.After-write-in → tie.Start
-S c = c .before .before .before .before .before .before .before .before .before .before .before .before
+S c = c .before .before .before .before .before .before .before .before .before .before .before .before .before .before
 
 abbrev T : tie.After-write-in → Table
 T c = S c .args .t1
@@ -59,6 +65,8 @@ pub write-spec : {M : Type 1} → statement M
 write-spec =
     tie.close
     (tie.spec
+    steps-requires
+    slice-aggregate-write-in
     write-in-requires
     enum-told
     enum-known-answer

@@ -29,7 +29,7 @@ enum-known-plan-2 c = search needs
 
 -- the call's arguments, and its rows
 abbrev S : tie.After-plan-write → tie.Start
-S c = c .before .before .before
+S c = c .before .before .before .before
 
 abbrev T : tie.After-plan-write → Table
 T c = let a = S c .args in tableOf (a .shape) (a .t2)
@@ -73,7 +73,7 @@ array-copy-out-used : tie.Need-array-copy-out-used
 array-copy-out-used c = search needs
 
 -- where its used entries are known
-abbrev P : tie.After-shared-slice-known → tie.After-plan2
+abbrev P : tie.After-shared-slice-known2 → tie.After-plan2
 P c = c .before .before .before
 
 mul-entry : tie.Need-mul-entry
@@ -104,7 +104,8 @@ invalidate-requires : tie.Need-invalidate-requires
 invalidate-requires c κs =
     let e = c .before .before .before in
     let p = P (e .before .before .before) in
-    (S (W p) .pre, (rw (e .enter .ensures) (inside-set _ _ _ _ _ _ _ _ (facts p .inside)), search needs))
+    let s = S (W p) in
+    (s .pre .0, (rw (e .enter .ensures) (inside-set _ _ _ _ _ _ _ _ (facts p .inside)), (search needs, s .pre .1)))
 
 same-length : tie.Need-same-length
 same-length c = search needs

@@ -13,11 +13,17 @@ light x y z a b c (suc zero) l = b
 light x y z a b c (suc (suc zero)) l = c
 light x y z a b c (suc (suc (suc k))) l = absurd (omega arith)
 
+steps-requires : tie.Need-steps-requires
+steps-requires c κs = search needs
+
 slice-aggregate-write-server : tie.Need-slice-aggregate-write-server
 slice-aggregate-write-server c = search needs
 
+slice-aggregate-write-server-2 : tie.Need-slice-aggregate-write-server-2
+slice-aggregate-write-server-2 c = search needs
+
 write-server-requires : tie.Need-write-server-requires
-write-server-requires c κs = record { few = search needs; each = search needs; light = light _ _ _ (search needs) (search needs) (search needs) }
+write-server-requires c κs = (record { few = search needs; each = search needs; light = light _ _ _ (search needs) (search needs) (search needs) }, search needs)
 
 returns : tie.Need-returns
 returns c = search needs
@@ -26,6 +32,8 @@ pub picked-spec : {M : Type 1} → statement M
 picked-spec =
     tie.close
     (tie.spec
+    steps-requires
     slice-aggregate-write-server
+    slice-aggregate-write-server-2
     write-server-requires
     returns)
