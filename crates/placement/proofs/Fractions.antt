@@ -18,9 +18,9 @@ pub one-exceeds : (m x : ℕ) → x < m → exceeds m (record { num = 1; den = 1
 unfolding exceeds
 one-exceeds m x h = lt-ltb (x * 1) (1 * m) (omega arith)
 
-pub zero-exceeds-none : (m x : ℕ) → exceeds m (record { num = 0; den = 1 }) x ≡ false
+pub zero-exceeds-none : (m d x : ℕ) → exceeds m (record { num = 0; den = d }) x ≡ false
 unfolding exceeds
-zero-exceeds-none m x = le-ltb (x * 1) (0 * m) (omega arith)
+zero-exceeds-none m d x = le-ltb (x * d) (0 * m) (omega arith)
 
 -- what exceeds a draw still does when the fraction grows
 pub exceeds-grows : (m : ℕ) (p q : Fraction) (x : ℕ) → 1 ≤ q .den → atLeast q p ≡ true → exceeds m p x ≡ true → exceeds m q x ≡ true

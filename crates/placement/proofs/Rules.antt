@@ -1,13 +1,13 @@
 -- Laws of the published rule.
 -- Assumes nothing.
 use Prim.Native.Nat.{ℕ, zero, suc, _-_, _≤_, _<_}
-use mathlib.Core.Path.{_≡_, refl, ap}
-use mathlib.Core.Bool.{true}
+use mathlib.Core.Path.{_≡_, refl, ap, sym}
+use mathlib.Core.Bool.{Bool, true}
 use native.Mathlib.Numerals.{sub-one}
 use native.Mathlib.Omega.{arith}
 use lib.Dec.{eqb}
-use borrow.Author.Tests.{eqb-false}
-use Rattle.lists.specs.Below.{orZero, total}
+use borrow.Author.Tests.{eqb-true, eqb-false, ne-eqb}
+use Rattle.lists.specs.Below.{highest, orZero, total}
 use Rattle.lists.proofs.Tests.{byBool}
 use Rattle.lists.proofs.Below.{Highest, highest-is, highest-only, highest-cong, total-cong, total-le}
 use Rattle.draws.specs.Draw.{modulus, drawOf}
@@ -15,7 +15,7 @@ use Rattle.draws.proofs.Draws.{draw<}
 use Rattle.placement.specs.declared.Fraction.{Fraction}
 use Rattle.placement.specs.Fraction.{exceeds}
 use Rattle.placement.specs.Rule.{shareOf, writeP, takes, pick, writeServer, readable, Picked}
-use Rattle.placement.proofs.Fractions.{one-exceeds}
+use Rattle.placement.proofs.Fractions.{one-exceeds, zero-exceeds-none}
 
 -- a fraction of at most 1
 pub record Proper (f : Fraction) : Type 0 where
@@ -82,8 +82,19 @@ pub pick-cong : (m : ℕ) (draw v u : ℕ → ℕ) (n : ℕ) → ((i : ℕ) → 
 unfolding pick
 pick-cong m draw v u n h = ap orZero (highest-cong (takes m draw (writeP v)) (takes m draw (writeP u)) n (λ k l. takes-cong m draw (writeP v) (writeP u) k (writeP-cong v u k (λ i a. h i (omega arith)))))
 
--- the test at the last of k servers, by the sum of all k weights
-pub takes-last : (m : ℕ) (draw weight : ℕ → ℕ) (k : ℕ) → 0 < k → takes m draw (writeP weight) (k - 1) ≡ exceeds m (shareOf (k - 1) (weight (k - 1)) (total weight k)) (draw (k - 1))
-unfolding takes writeP
+-- the test at the last of k servers, by the sum of all k weights; a weight of 0 over that sum exceeds no draw, as 0/1 does not
+pub takes-last : (m : ℕ) (draw weight : ℕ → ℕ) (k : ℕ) → 1 < k
+    → takes m draw (writeP weight) (k - 1) ≡ exceeds m (record { num = weight (k - 1); den = total weight k }) (draw (k - 1))
+unfolding takes writeP shareOf
 takes-last m draw weight zero l = absurd (omega arith)
-takes-last m draw weight (suc k) l = rw sub-one refl
+takes-last m draw weight (suc k) l =
+    rw (sub-one, ne-eqb k 0 (λ e. omega arith)) (byBool (eqb (weight k) 0)
+    (λ d. rw (d, eqb-true (weight k) 0 d, zero-exceeds-none m 1 (draw k)) (sym (zero-exceeds-none m (total weight (suc k)) (draw k))))
+    (λ d. rw d refl))
+
+-- where at most server 0 is left it is picked
+pub pick-last : (p : ℕ → Bool) (k : ℕ) → k ≤ 1 → orZero (highest p k) ≡ 0
+unfolding highest orZero
+pick-last p zero l = refl
+pick-last p (suc zero) l = byBool (p 0) (λ e. rw e refl) (λ e. rw e refl)
+pick-last p (suc (suc k)) l = absurd (omega arith)

@@ -86,7 +86,8 @@ pub fn sum_weights(weights: &[u32], count: usize) -> u32
     sum
 }
 
-// The write server of an id among `count` servers: from the highest down, the first whose WriteP exceeds its draw.
+// The write server of an id among `count` servers: from the highest down, the first whose WriteP exceeds its draw. Server 0 takes what
+// no other does, so that the loop ends above it. A weight of 0 needs no case of its own, since a fraction of 0 exceeds no draw.
 pub fn write_server(weights: &[u32], steps: &[u32], count: usize, id: u32) -> usize
     requires { ⌜ Bounded (now weights) count ⌝ }
     requires { ⌜ areSteps (now steps) ≡ true ⌝ }
@@ -94,10 +95,14 @@ pub fn write_server(weights: &[u32], steps: &[u32], count: usize, id: u32) -> us
 {
     let mut sum = sum_weights(weights, count);
     let mut k = count;
-    while 0 < k {
+    while 1 < k {
         k -= 1;
         let weight = weights[k];
-        if takes(write_p(k, weight, sum), steps, id, k) {
+        let write = Fraction {
+            num: weight,
+            den: sum,
+        };
+        if takes(write, steps, id, k) {
             return k;
         }
         sum -= weight;

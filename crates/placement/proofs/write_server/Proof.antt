@@ -10,7 +10,7 @@ use Rattle.lists.specs.Below.{nth, highest, orZero, total}
 use Rattle.lists.proofs.Below.{total-last, highest-last}
 use Rattle.draws.specs.Draw.{modulus, drawOf}
 use Rattle.placement.specs.Rule.{writeP, takes, pick, writeServer}
-use Rattle.placement.proofs.Rules.{takes-last}
+use Rattle.placement.proofs.Rules.{takes-last, pick-last}
 use Rattle.placement.proofs.write_server.Statement.{statement}
 use Rattle.placement.proofs.write_server.Tie as tie
 
@@ -38,15 +38,12 @@ mul-weight c = search needs
 shared-slice-read-weight : tie.Need-shared-slice-read-weight Inv-loop μ-loop
 shared-slice-read-weight c = search needs
 
-write-p-requires : tie.Need-write-p-requires Inv-loop μ-loop
-write-p-requires c κs = search needs
-
 takes-requires : tie.Need-takes-requires Inv-loop μ-loop
 takes-requires c κs = search needs
 
 -- the loop's head, the start, and the weights
 abbrev L : tie.After-takes Inv-loop μ-loop → tie.At-loop Inv-loop μ-loop
-L c = c .before .before .before .before
+L c = c .before .before .before
 
 abbrev S : tie.At-loop Inv-loop μ-loop → tie.Start Inv-loop μ-loop
 S l = l .before .before .before .before
@@ -84,10 +81,9 @@ loop-again c =
     (search needs, search needs, omega (arith, total-last (W l) (l .loop .k) (search needs)), rest (c .before) false (c .if1 .left))
 
 returns-2 : tie.Need-returns-2 Inv-loop μ-loop
-unfolding highest orZero
 returns-2 c =
-    let e : c .before .loop .k ≡ 0 = omega arith in
-    sym (c .before .loop .inv .3 ∙ rw e)
+    let l = c .before in
+    sym (l .loop .inv .3 ∙ pick-last _ (l .loop .k) (omega arith))
 
 pub write-server-spec : {M : Type 1} → statement M
 write-server-spec =
@@ -100,7 +96,6 @@ write-server-spec =
     sub-k
     mul-weight
     shared-slice-read-weight
-    write-p-requires
     takes-requires
     returns
     sub-sum
