@@ -62,7 +62,7 @@ pub fn lookup_batch(table: Table, medium: &[u32], tenant: u32, ids: &[u32]) -> B
             ids,
             k,
         );
-        if batch_answer::has(&parts.ends, n, k as u32 + 1) {
+        if batch_answer::has(&parts.ends, n, k as u16 + 1) {
             mounts += 1;
         }
     }

@@ -37,7 +37,7 @@ pub fn refused_batch(number: u32) -> Batch
 }
 
 // Whether one of the first `n` numbers is `x`.
-pub fn has(numbers: &[u32; MAX_IDS], n: usize, x: u32) -> bool
+pub fn has(numbers: &[u16; MAX_IDS], n: usize, x: u16) -> bool
     requires { ⌜ n ≤ maxIds ⌝ }
     ensures { λ r. ⌜ r ≡ someBelow (λ i. eqb (nth (now (numbers .entry)) i) x) n ⌝ }
 {

@@ -7,12 +7,13 @@ ghost use Rattle.batch_begin.specs.Begin.{firstRefusal, firstParts};
 use limits::MAX_IDS;
 
 // How far the lookups of all ids are: each array has one number for each id, in the order of the ids. A refusal is 8 while no entry
-// was met, and an end is one more than the last server opened for the id, or 0.
+// was met, and an end is one more than the last server opened for the id, or 0. An end has 16 bits so that the whole, which is copied
+// for each server, has fewer than 4,096 bytes (docs/BENCHMARKS.md, "What was found and mended").
 pub struct Parts {
     pub refusals: [u32; MAX_IDS],
     pub values: [u32; MAX_IDS],
     pub opened: [u32; MAX_IDS],
-    pub ends: [u32; MAX_IDS],
+    pub ends: [u16; MAX_IDS],
 }
 
 // The refusal of an id before any server is opened, by what the tests say of an id in range that is the caller's own.

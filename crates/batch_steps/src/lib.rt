@@ -22,7 +22,7 @@ pub struct Progress {
     pub refusal: u32,
     pub value: u32,
     pub opened: u32,
-    pub end: u32,
+    pub end: u16,
 }
 
 // The highest-numbered live entry of an id on a server.
@@ -65,7 +65,7 @@ fn step(
         return progress;
     }
     let opened = progress.opened + 1;
-    let end = server as u32 + 1;
+    let end = server as u16 + 1;
     match newest_on(capacity, used, medium, id, server) {
         Newest::Nothing => Progress {
             refusal: 8,

@@ -22,11 +22,11 @@ loop-holds : tie.Need-loop-holds Inv-loop μ-loop
 unfolding withParts setBelow
 loop-holds c = (search needs, refl)
 
-mul-t13 : tie.Need-mul-t13 Inv-loop μ-loop
-mul-t13 c = search needs
+mul-step : tie.Need-mul-step Inv-loop μ-loop
+mul-step c = search needs
 
-element-copy-out-t17 : tie.Need-element-copy-out-t17 Inv-loop μ-loop
-element-copy-out-t17 c = search needs
+element-copy-out-step : tie.Need-element-copy-out-step Inv-loop μ-loop
+element-copy-out-step c = search needs
 
 mul-t18 : tie.Need-mul-t18 Inv-loop μ-loop
 mul-t18 c = search needs
@@ -40,11 +40,11 @@ mul-t22 c = search needs
 element-copy-out-t25 : tie.Need-element-copy-out-t25 Inv-loop μ-loop
 element-copy-out-t25 c = search needs
 
-mul-step : tie.Need-mul-step Inv-loop μ-loop
-mul-step c = search needs
+mul-t26 : tie.Need-mul-t26 Inv-loop μ-loop
+mul-t26 c = search needs
 
-element-copy-out-step : tie.Need-element-copy-out-step Inv-loop μ-loop
-element-copy-out-step c = search needs
+element-copy-out-t29 : tie.Need-element-copy-out-t29 Inv-loop μ-loop
+element-copy-out-t29 c = search needs
 
 mul-step-2 : tie.Need-mul-step-2 Inv-loop μ-loop
 mul-step-2 c = search needs
@@ -114,14 +114,14 @@ step-all-spec =
     Inv-loop
     μ-loop
     loop-holds
-    mul-t13
-    element-copy-out-t17
+    mul-step
+    element-copy-out-step
     mul-t18
     element-copy-out-t21
     mul-t22
     element-copy-out-t25
-    mul-step
-    element-copy-out-step
+    mul-t26
+    element-copy-out-t29
     mul-step-2
     shared-slice-read-step
     step-requires
