@@ -73,31 +73,18 @@ pub fn run_in<'a>(
         ≡ nextBy (record { table = tableOf shape (columns .entry); medium = now (medium .entry) }) (callOf number tenant subject amount) .medium ⌝ }
 {
     match number {
-        WRITE => replies::write_reply(writing::write_in(
-            shape,
-            columns,
-            steps,
-            medium,
-            tenant,
-            subject,
-            amount,
-        )),
-        DELETE => replies::delete_reply(deletion::delete_in(
-            shape,
-            columns,
-            steps,
-            medium,
-            tenant,
-            subject,
-        )),
-        LOOKUP => replies::lookup_reply(lookup::lookup_in(
-            shape,
-            columns,
-            steps,
-            medium,
-            tenant,
-            subject,
-        )),
+        WRITE => {
+            let answer = writing::write_in(shape, columns, steps, medium, tenant, subject, amount);
+            replies::write_reply(answer)
+        }
+        DELETE => {
+            let answer = deletion::delete_in(shape, columns, steps, medium, tenant, subject);
+            replies::delete_reply(answer)
+        }
+        LOOKUP => {
+            let answer = lookup::lookup_in(shape, columns, steps, medium, tenant, subject);
+            replies::lookup_reply(answer)
+        }
         _ => no_call(),
     }
 }
