@@ -52,16 +52,8 @@ pub fn lookup_batch(table: Table, medium: &[u32], tenant: u32, ids: &[u32]) -> B
             num: table.numerators[k],
             den: table.denominators[k],
         };
-        parts = batch_steps::step_all(
-            parts,
-            read,
-            &steps,
-            table.capacity,
-            table.used[k],
-            medium,
-            ids,
-            k,
-        );
+        let used = table.used[k];
+        parts = batch_steps::step_all(parts, read, &steps, table.capacity, used, medium, ids, k);
         if batch_answer::has(&parts.ends, n, k as u16 + 1) {
             mounts += 1;
         }

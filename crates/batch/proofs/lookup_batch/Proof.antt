@@ -25,7 +25,7 @@ abbrev μ-loop : tie.MeasureT-loop
 μ-loop medium tenant ids table n number servers steps parts₀ mounts₀ k₀ parts mounts k = k
 
 -- the start, from the place where the columns are lent and from where the number of servers is known
-abbrev B : tie.After-t242 Inv-loop μ-loop → tie.Start Inv-loop μ-loop
+abbrev B : tie.After-t252 Inv-loop μ-loop → tie.Start Inv-loop μ-loop
 B c = c .before .before .before .before .before .before .before .before .before .before .before
 
 abbrev J : tie.Joined2 Inv-loop μ-loop → tie.Start Inv-loop μ-loop
@@ -108,20 +108,20 @@ mul-step-all c = omega (arith, low (c .before))
 element-copy-out-step-all : tie.Need-element-copy-out-step-all Inv-loop μ-loop
 element-copy-out-step-all c = omega (arith, low (c .before))
 
-mul-step-all-2 : tie.Need-mul-step-all-2 Inv-loop μ-loop
-mul-step-all-2 c = omega (arith, low (c .before .before))
+mul-used : tie.Need-mul-used Inv-loop μ-loop
+mul-used c = omega (arith, low (c .before .before))
 
-element-copy-out-step-all-2 : tie.Need-element-copy-out-step-all-2 Inv-loop μ-loop
-element-copy-out-step-all-2 c = omega (arith, low (c .before .before))
+element-copy-out-used : tie.Need-element-copy-out-used Inv-loop μ-loop
+element-copy-out-used c = omega (arith, low (c .before .before))
+
+mul-used-2 : tie.Need-mul-used-2 Inv-loop μ-loop
+mul-used-2 c = omega (arith, low (c .before .before .before))
+
+element-copy-out-used-2 : tie.Need-element-copy-out-used-2 Inv-loop μ-loop
+element-copy-out-used-2 c = omega (arith, low (c .before .before .before))
 
 slice-aggregate-step-all : tie.Need-slice-aggregate-step-all Inv-loop μ-loop
 slice-aggregate-step-all c = search needs
-
-mul-step-all-3 : tie.Need-mul-step-all-3 Inv-loop μ-loop
-mul-step-all-3 c = omega (arith, low (c .before .before .before .before))
-
-element-copy-out-step-all-3 : tie.Need-element-copy-out-step-all-3 Inv-loop μ-loop
-element-copy-out-step-all-3 c = omega (arith, low (c .before .before .before .before))
 
 step-all-requires : tie.Need-step-all-requires Inv-loop μ-loop
 step-all-requires c κs =
@@ -217,11 +217,11 @@ lookup-batch-spec =
     sub-k
     mul-step-all
     element-copy-out-step-all
-    mul-step-all-2
-    element-copy-out-step-all-2
+    mul-used
+    element-copy-out-used
+    mul-used-2
+    element-copy-out-used-2
     slice-aggregate-step-all
-    mul-step-all-3
-    element-copy-out-step-all-3
     step-all-requires
     cast-has
     add-has
