@@ -1,5 +1,5 @@
-// The steps of the draw, one for each server: entry k is (k + 1) * 2654435769 % 2^32. `step` is proved to read just these numbers, by
-// one test over the whole table (proofs/Tabled.antt), so that a wrong number here is refused.
+// The steps of the draw, one for each server: entry k is (k + 1) * 2654435769 % 2^32. The contract of `steps` says so of the whole
+// table by one test (`areSteps`), so that a wrong number here is refused.
 use limits::MAX_SERVERS;
 
 pub const STEPS: [u32; MAX_SERVERS] = [
