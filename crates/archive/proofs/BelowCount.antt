@@ -11,9 +11,7 @@ use lib.Dec.{leb, ltb, eqb}
 use borrow.Author.Tests.{leb-false, eqb-false}
 use Rattle.lists.specs.Below.{nth}
 use Rattle.lists.proofs.Tests.{byBool, true-not-false}
-use Rattle.draws.specs.Draw.{modulus, drawOf}
-use Rattle.placement.specs.Rule.{pick, writeServer}
-use Rattle.placement.proofs.Rules.{pick-cong}
+use Rattle.placement.proofs.Rules.{writeServer-cong}
 use Rattle.medium.specs.Word.{idWord, valueWord, replaced, deleted}
 use Rattle.medium.specs.Entry.{serverAt, entryAt, blankRun}
 use Rattle.medium.specs.Burn.{burnAll, marksOver, invalidations}
@@ -72,7 +70,7 @@ module _ (t u : Table) (g : AgreeBelow t u) where
   same-short m = ap₂ (λ (c n : ℕ). ltb (length m) (serverAt c n)) (g .capacity) (g .count)
 
   same-reads : (id k : ℕ) → k < t .count → reads t id k ≡ reads u id k
-  same-reads id k l = reads-same t u id k (g .read k l)
+  same-reads id k l = reads-same t u id k (g .salt) (g .read k l)
 
   -- the rows of each call
 
@@ -96,10 +94,8 @@ module _ (t u : Table) (g : AgreeBelow t u) where
   -- what a write or a delete finds
 
   same-target : (id : ℕ) → target t id ≡ target u id
-  unfolding target writeServer
-  same-target id =
-      pick-cong modulus (drawOf id) (weightOf t) (weightOf u) (t .count) (g .weight)
-      ∙ ap (pick modulus (drawOf id) (weightOf u)) (g .count)
+  unfolding target
+  same-target id = writeServer-cong (weightOf t) (weightOf u) _ _ _ _ id (g .weight) (g .count) (g .salt)
 
   same-used : (id : ℕ) → 0 < t .count → usedOf t (target t id) ≡ usedOf u (target u id)
   same-used id l = g .used (target t id) (target-is t id l .below) ∙ ap (usedOf u) (same-target id)
@@ -160,6 +156,7 @@ module _ (t u : Table) (g : AgreeBelow t u) where
   same-servers : (m : List ℕ) (id : ℕ) → SameOpened t u m m id
   same-servers m id = record {
     capacity = g .capacity;
+    salt = g .salt;
     count = g .count;
     weights = g .weight;
     readPs = g .read;

@@ -10,9 +10,9 @@ use Rattle.replies.specs.Refusal.{rising}
 use Rattle.server_rows.specs.ServerRows.{startRows, addServerRows, reweightRows}
 use Rattle.batch.specs.Batch.{batchRows}
 
-pub start-rises : (capacity : ℕ) → rising 0 (startRows capacity) ≡ true
+pub start-rises : (capacity salt : ℕ) → rising 0 (startRows capacity salt) ≡ true
 unfolding rising startRows
-start-rises capacity = refl
+start-rises capacity salt = refl
 
 module _ (t : Table) where
   pub addServer-rises : (m : List ℕ) (weight : ℕ) → rising 0 (addServerRows t m weight) ≡ true

@@ -15,7 +15,7 @@ use Rattle.lists.proofs.Tests.{byBool}
 use Rattle.lists.proofs.Below.{length-setBelow, setBelow-at, setBelow-above, someBelow-none, someBelow-cong, countBelow-none, countBelow-le, nth-zeros}
 use Rattle.table.specs.declared.Table.{Table}
 use Rattle.table.specs.Sound.{sound}
-use Rattle.table.specs.Parts.{usedOf, readP}
+use Rattle.table.specs.Parts.{shapeOf, usedOf, readP}
 use Rattle.replies.specs.Refusal.{firstOf, settle}
 use Rattle.replies.proofs.Refusals.{settle-yes, settle-no}
 use Rattle.checks.specs.Ready.{readyRows}
@@ -77,10 +77,10 @@ module _ (t : Table) (m : List ℕ) (tenant : ℕ) (ids : List ℕ) where
   -- server k is next
   module _ (k : ℕ) (l : k < t .count) (parts : Parts) (done : PartsFrom (suc k) parts) where
     abbrev Next : Parts
-    Next = steppedAll (readP t k) (t .capacity) (usedOf t k) m ids k parts
+    Next = steppedAll (readP t k) (shapeOf t) (usedOf t k) m ids k parts
 
     abbrev At : ℕ → Progress
-    At i = steppedAt (readP t k) (t .capacity) (usedOf t k) m ids k parts i
+    At i = steppedAt (readP t k) (shapeOf t) (usedOf t k) m ids k parts i
 
     next-at : (i : ℕ) → i < n → progressAt Next i ≡ At i
     unfolding steppedAll withParts
@@ -222,7 +222,7 @@ module _ (t : Table) (m : List ℕ) (tenant : ℕ) (ids : List ℕ) where
 
   -- server k is next: r is what the code's test says, whether it is opened
   module _ (k : ℕ) (parts : Parts) (mounted : ℕ) (from : BatchFrom (suc k) parts mounted)
-      (next : Parts) (e : next ≡ steppedAll (readP t k) (t .capacity) (usedOf t k) m ids k parts)
+      (next : Parts) (e : next ≡ steppedAll (readP t k) (shapeOf t) (usedOf t k) m ids k parts)
       (x : ℕ) (a : x ≡ suc k) {r : Bool} (h : r ≡ someBelow (λ i. eqb (nth (next .ends) i) x) n) where
     there : k < t .count
     there = ready-there k (omega (arith, from .below)) .0

@@ -18,7 +18,7 @@ use Rattle.placement.specs.Rule.{readable, takes}
 use Rattle.medium.specs.Word.{tagOf}
 use Rattle.medium.specs.Entry.{valueAt}
 use Rattle.table.specs.declared.Table.{Table}
-use Rattle.table.specs.Parts.{usedOf, readP, reads}
+use Rattle.table.specs.Parts.{shapeOf, usedOf, readP, reads}
 use Rattle.table.specs.Sound.{sound}
 use Rattle.replies.specs.Refusal.{firstOf, settle}
 use Rattle.replies.specs.declared.Reply.{Reply}
@@ -176,16 +176,16 @@ module _ (t : Table) (m : List ℕ) (tenant id : ℕ) where
   -- server k is next
   module _ (k : ℕ) (l : k < t .count) where
     abbrev Next : Progress → Progress
-    Next p = stepped (readP t k) (t .capacity) (usedOf t k) m id k p
+    Next p = stepped (readP t k) (shapeOf t) (usedOf t k) m id k p
 
     -- of one that is absent so far, and of one that is not
     next-absent : (p : Progress) (b : Bool) → p .refusal ≡ 8 → reads t id k ≡ b
         → Next p ≡ cond b (visited (t .capacity) m k (suc (p .opened)) (lastLive t m id k)) p
     unfolding lastLive readable takes
-    next-absent p b a e = step-tested (readP t k) (t .capacity) (usedOf t k) m id k p a refl b e
+    next-absent p b a e = step-tested (readP t k) (shapeOf t) (usedOf t k) m id k p a refl b e
 
     next-other : (p : Progress) → p .refusal ≢ 8 → Next p ≡ p
-    next-other p a = sym (step-settled (readP t k) (t .capacity) (usedOf t k) m id k p a)
+    next-other p a = sym (step-settled (readP t k) (shapeOf t) (usedOf t k) m id k p a)
 
     -- it is opened exactly where it is read for one that is absent so far
     opened-here : (o : Option Place) → firstOf (lookupRows t m tenant id) ≡ 0 → searchFor t m id .met ≡ o → leb (lowest o) k ≡ true

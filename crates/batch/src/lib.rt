@@ -28,6 +28,7 @@ pub fn lookup_batch(table: Table, medium: &[u32], tenant: u32, ids: &[u32]) -> B
 {
     let shape = Shape {
         capacity: table.capacity,
+        salt: table.salt,
         count: table.count,
     };
     let columns: Columns = [
@@ -53,7 +54,7 @@ pub fn lookup_batch(table: Table, medium: &[u32], tenant: u32, ids: &[u32]) -> B
             den: table.denominators[k],
         };
         let used = table.used[k];
-        parts = batch_steps::step_all(parts, read, &steps, table.capacity, used, medium, ids, k);
+        parts = batch_steps::step_all(parts, read, &steps, shape, used, medium, ids, k);
         if batch_answer::has(&parts.ends, n, k as u16 + 1) {
             mounts += 1;
         }

@@ -16,6 +16,7 @@ use Rattle.draws.specs.Draw.{modulus, drawOf}
 use Rattle.placement.specs.declared.Fraction.{Fraction}
 use Rattle.placement.specs.Fraction.{exceeds}
 use Rattle.medium.specs.Entry.{live}
+use Rattle.table.specs.declared.Shape.{Shape}
 use Rattle.replies.specs.declared.Reply.{Reply}
 use Rattle.lookup.specs.Lookup.{metReply}
 use Rattle.search.proofs.Searches.{highest-at}
@@ -49,9 +50,9 @@ pub newest-used : (capacity used : ℕ) (m : List ℕ) (id k : ℕ) {n : Newest}
 newest-used capacity used m id k f j g = highest-at _ used j (newest-some _ f j g) .0
 
 -- server k for an id with this part so far
-module _ (read : Fraction) (capacity used : ℕ) (m : List ℕ) (id k : ℕ) (p : Progress) where
+module _ (read : Fraction) (shape : Shape) (used : ℕ) (m : List ℕ) (id k : ℕ) (p : Progress) where
   abbrev Next : Progress
-  Next = stepped read capacity used m id k p
+  Next = stepped read shape used m id k p
 
   -- its search has ended
   pub step-settled : p .refusal ≢ 8 → p ≡ Next
@@ -59,8 +60,8 @@ module _ (read : Fraction) (capacity used : ℕ) (m : List ℕ) (id k : ℕ) (p 
   step-settled a = rw (ne-eqb (p .refusal) 8 a)
 
   -- it is absent so far; r is what the code's test of the server answers
-  module _ (a : p .refusal ≡ 8) {r : Bool} (e : r ≡ exceeds modulus read (drawOf id k)) where
-    pub step-tested : (b : Bool) → r ≡ b → Next ≡ cond b (visited capacity m k (suc (p .opened)) (highest (live capacity used m id k) used)) p
+  module _ (a : p .refusal ≡ 8) {r : Bool} (e : r ≡ exceeds modulus read (drawOf (shape .salt) id k)) where
+    pub step-tested : (b : Bool) → r ≡ b → Next ≡ cond b (visited (shape .capacity) m k (suc (p .opened)) (highest (live (shape .capacity) used m id k) used)) p
     unfolding stepped
     step-tested b d = rw (eq-eqb (p .refusal) 8 a, sym e ∙ d)
 
@@ -68,21 +69,21 @@ module _ (read : Fraction) (capacity used : ℕ) (m : List ℕ) (id k : ℕ) (p 
     step-skipped d = sym (step-tested false d)
 
     -- it is opened, and n is what its search answers
-    module _ (d : r ≡ true) {n : Newest} (f : n ≡ newestBy (highest (live capacity used m id k) used)) where
+    module _ (d : r ≡ true) {n : Newest} (f : n ≡ newestBy (highest (live (shape .capacity) used m id k) used)) where
       pub step-passed : n ≡ Nothing → record { refusal = 8; value = 0; opened = p .opened + 1; end = k + 1 } ≡ Next
       unfolding visited
       step-passed g = sym (step-tested true d ∙ rw (newest-none _ f g, add-one (p .opened), add-one k))
 
-      pub step-met : (j : ℕ) → n ≡ Entry j → {y z : Reply} → y ≡ z → z ≡ metReply capacity m (p .opened + 1) (some (record { server = k; entry = j }))
+      pub step-met : (j : ℕ) → n ≡ Entry j → {y z : Reply} → y ≡ z → z ≡ metReply (shape .capacity) m (p .opened + 1) (some (record { server = k; entry = j }))
           → record { refusal = y .refusal; value = y .value; opened = p .opened + 1; end = k + 1 } ≡ Next
       unfolding visited
       step-met j g h i = sym (step-tested true d ∙ rw (newest-some _ f j g, h, i, add-one (p .opened), add-one k))
 
 -- server k for the ids below n
-module _ (read : Fraction) (capacity used : ℕ) (m ids : List ℕ) (k : ℕ) (parts : Parts) (n : ℕ) {next : Parts}
-    (e : next ≡ withParts (steppedAt read capacity used m ids k parts) n parts) where
+module _ (read : Fraction) (shape : Shape) (used : ℕ) (m ids : List ℕ) (k : ℕ) (parts : Parts) (n : ℕ) {next : Parts}
+    (e : next ≡ withParts (steppedAt read shape used m ids k parts) n parts) where
   abbrev At : ℕ → Progress
-  At = steppedAt read capacity used m ids k parts
+  At = steppedAt read shape used m ids k parts
 
   above : (f : ℕ → ℕ) (xs : List ℕ) → nth (setBelow f n xs) n ≡ nth xs n
   above f xs = setBelow-above f n xs n (omega arith)
@@ -99,7 +100,7 @@ module _ (read : Fraction) (capacity used : ℕ) (m ids : List ℕ) (k : ℕ) (p
   )
 
   -- one position more, as a loop counts
-  pub part-more : {p : Progress} → p ≡ stepped read capacity used m (nth ids n) k (progressAt next n) → record {
+  pub part-more : {p : Progress} → p ≡ stepped read shape used m (nth ids n) k (progressAt next n) → record {
     refusals = set (next .refusals) n (p .refusal);
     values = set (next .values) n (p .value);
     opened = set (next .opened) n (p .opened);
@@ -107,7 +108,7 @@ module _ (read : Fraction) (capacity used : ℕ) (m ids : List ℕ) (k : ℕ) (p
   } ≡ withParts At (n + 1) parts
   unfolding withParts steppedAt
   part-more {p} d =
-      let q : p ≡ At n = d ∙ ap (stepped read capacity used m (nth ids n) k) part-here in
+      let q : p ≡ At n = d ∙ ap (stepped read shape used m (nth ids n) k) part-here in
       rw (
         setBelow-more (λ i. At i .refusal) n (parts .refusals) (next .refusals) _ (ap (λ (x : Parts). x .refusals) e) (ap (λ (x : Progress). x .refusal) q),
         setBelow-more (λ i. At i .value) n (parts .values) (next .values) _ (ap (λ (x : Parts). x .values) e) (ap (λ (x : Progress). x .value) q),

@@ -10,6 +10,7 @@ use Rattle.draws.specs.Draw.{modulus, drawOf}
 use Rattle.placement.specs.declared.Fraction.{Fraction}
 use Rattle.placement.specs.Fraction.{exceeds}
 use Rattle.medium.specs.Entry.{live}
+use Rattle.table.specs.declared.Shape.{Shape}
 use Rattle.lookup.specs.Lookup.{metReply}
 use Rattle.batch_begin.specs.declared.Parts.{Parts}
 use Rattle.batch_steps.specs.declared.Newest.{Newest}
@@ -28,11 +29,11 @@ visited capacity m k opened (some j) =
     let r = metReply capacity m opened (some (record { server = k; entry = j })) in
     record { refusal = r .refusal; value = r .value; opened = opened; end = suc k }
 
--- server k, by its ReadP and its used: it is opened if no entry of the id was met yet and it is read for the id
-unfoldable pub stepped : Fraction → ℕ → ℕ → List ℕ → ℕ → ℕ → Progress → Progress
-stepped read capacity used m id k p =
-    cond (eqb (p .refusal) 8 && exceeds modulus read (drawOf id k))
-    (visited capacity m k (suc (p .opened)) (highest (live capacity used m id k) used))
+-- server k, by its ReadP and its used in a table of this shape: it is opened if no entry of the id was met yet and it is read for the id
+unfoldable pub stepped : Fraction → Shape → ℕ → List ℕ → ℕ → ℕ → Progress → Progress
+stepped read shape used m id k p =
+    cond (eqb (p .refusal) 8 && exceeds modulus read (drawOf (shape .salt) id k))
+    (visited (shape .capacity) m k (suc (p .opened)) (highest (live (shape .capacity) used m id k) used))
     p
 
 -- the part of the id at position i
@@ -49,8 +50,8 @@ withParts f n parts = record {
 }
 
 -- what server k makes of the part at position i, and of every part
-unfoldable pub steppedAt : Fraction → ℕ → ℕ → List ℕ → List ℕ → ℕ → Parts → ℕ → Progress
-steppedAt read capacity used m ids k parts i = stepped read capacity used m (nth ids i) k (progressAt parts i)
+unfoldable pub steppedAt : Fraction → Shape → ℕ → List ℕ → List ℕ → ℕ → Parts → ℕ → Progress
+steppedAt read shape used m ids k parts i = stepped read shape used m (nth ids i) k (progressAt parts i)
 
-unfoldable pub steppedAll : Fraction → ℕ → ℕ → List ℕ → List ℕ → ℕ → Parts → Parts
-steppedAll read capacity used m ids k parts = withParts (steppedAt read capacity used m ids k parts) (length ids) parts
+unfoldable pub steppedAll : Fraction → Shape → ℕ → List ℕ → List ℕ → ℕ → Parts → Parts
+steppedAll read shape used m ids k parts = withParts (steppedAt read shape used m ids k parts) (length ids) parts

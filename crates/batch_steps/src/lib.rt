@@ -10,6 +10,7 @@ ghost use Rattle.medium.specs.Entry.{live, Inside};
 ghost use Rattle.batch_steps.specs.Steps.{newestBy, stepped, steppedAll};
 use batch_begin::Parts;
 use placement::Fraction;
+use table::Shape;
 
 // The newest entry of an id on a server: the highest-numbered live one.
 enum Newest {
@@ -46,27 +47,27 @@ fn step(
     progress: Progress,
     read: Fraction,
     steps: &[u32],
-    capacity: u32,
+    shape: Shape,
     used: u32,
     medium: &[u32],
     id: u32,
     server: usize,
 ) -> Progress
-    requires { ⌜ Inside capacity server (now medium) ⌝ }
-    requires { ⌜ used ≤ capacity ⌝ }
+    requires { ⌜ Inside (shape .capacity) server (now medium) ⌝ }
+    requires { ⌜ used ≤ shape .capacity ⌝ }
     requires { ⌜ progress .opened ≤ maxServers ⌝ }
     requires { ⌜ areSteps (now steps) ≡ true ⌝ }
-    ensures { λ r. ⌜ r ≡ stepped read capacity used (now (medium .entry)) id server progress ⌝ }
+    ensures { λ r. ⌜ r ≡ stepped read shape used (now (medium .entry)) id server progress ⌝ }
 {
     if progress.refusal != 8 {
         return progress;
     }
-    if !placement::takes(read, steps, id, server) {
+    if !placement::takes(read, steps, shape.salt, id, server) {
         return progress;
     }
     let opened = progress.opened + 1;
     let end = server as u16 + 1;
-    match newest_on(capacity, used, medium, id, server) {
+    match newest_on(shape.capacity, used, medium, id, server) {
         Newest::Nothing => Progress {
             refusal: 8,
             value: 0,
@@ -74,7 +75,7 @@ fn step(
             end,
         },
         Newest::Entry(entry) => {
-            let answer = lookup::met(capacity, medium, server, entry, opened as usize);
+            let answer = lookup::met(shape.capacity, medium, server, entry, opened as usize);
             let reply = replies::lookup_reply(answer);
             Progress {
                 refusal: reply.refusal,
@@ -91,18 +92,18 @@ pub fn step_all(
     parts: Parts,
     read: Fraction,
     steps: &[u32],
-    capacity: u32,
+    shape: Shape,
     used: u32,
     medium: &[u32],
     ids: &[u32],
     server: usize,
 ) -> Parts
-    requires { ⌜ Inside capacity server (now medium) ⌝ }
-    requires { ⌜ used ≤ capacity ⌝ }
+    requires { ⌜ Inside (shape .capacity) server (now medium) ⌝ }
+    requires { ⌜ used ≤ shape .capacity ⌝ }
     requires { ⌜ length (now ids) ≤ maxIds ⌝ }
     requires { ⌜ ((i : ℕ) → i < length (now ids) → nth (parts .opened) i ≤ maxServers) ⌝ }
     requires { ⌜ areSteps (now steps) ≡ true ⌝ }
-    ensures { λ r. ⌜ r ≡ steppedAll read capacity used (now (medium .entry)) (now (ids .entry)) server parts ⌝ }
+    ensures { λ r. ⌜ r ≡ steppedAll read shape used (now (medium .entry)) (now (ids .entry)) server parts ⌝ }
 {
     let mut next = parts;
     let mut i: usize = 0;
@@ -113,7 +114,7 @@ pub fn step_all(
             opened: next.opened[i],
             end: next.ends[i],
         };
-        let after = step(before, read, steps, capacity, used, medium, ids[i], server);
+        let after = step(before, read, steps, shape, used, medium, ids[i], server);
         next.refusals[i] = after.refusal;
         next.values[i] = after.value;
         next.opened[i] = after.opened;

@@ -9,26 +9,27 @@ use lib.Seq.{drop-drop}
 use borrow.Author.Tests.{le-ltb}
 use Rattle.lists.specs.Below.{nth}
 use Rattle.table.specs.declared.Table.{Table}
-use Rattle.table_words.specs.Words.{capacityOffset, countOffset, weightsOffset, usedOffset, numeratorsOffset, denominatorsOffset, tableLength, columnFrom, tableFrom, wordsOf, withTable}
+use Rattle.table_words.specs.Words.{capacityOffset, saltOffset, countOffset, weightsOffset, usedOffset, numeratorsOffset, denominatorsOffset, tableLength, columnFrom, tableFrom, wordsOf, withTable}
 use Rattle.dispatch.proofs.Calling.{withUsed}
 use Rattle.call_words.specs.CallWords.{withColumn}
 
--- the first two words, and a run of the words after them
-two-front : (words : List ℕ) (n : ℕ) → 2 ≤ length words → take (suc (suc n)) words ≡ nth words 0 ∷ nth words 1 ∷ take n (drop 2 words)
-two-front [] n l = absurd (omega arith)
-two-front (a ∷ []) n l = absurd (omega arith)
-two-front (a ∷ b ∷ rest) n l = refl
+-- the first three words, and a run of the words after them
+three-front : (words : List ℕ) (n : ℕ) → 3 ≤ length words → take (suc (suc (suc n))) words ≡ nth words 0 ∷ nth words 1 ∷ nth words 2 ∷ take n (drop 3 words)
+three-front [] n l = absurd (omega arith)
+three-front (a ∷ []) n l = absurd (omega arith)
+three-front (a ∷ b ∷ []) n l = absurd (omega arith)
+three-front (a ∷ b ∷ c ∷ rest) n l = refl
 
 -- a column, and the words after it
 column-next : (words : List ℕ) (at : ℕ) → drop at words ≡ columnFrom words at ++ drop (at + 256) words
 column-next words at = sym (take-append-drop 256 (drop at words)) ∙ ap (λ (rest : List ℕ). columnFrom words at ++ rest) (drop-drop 256 at words)
 
--- two numbers, four columns and a rest, as a store puts them together and as the words of a table have them
-together : {x z : List ℕ} (a b : ℕ) (weights used numerators denominators rest : List ℕ)
-    → x ≡ a ∷ b ∷ weights → z ≡ numerators ++ (denominators ++ rest)
-    → x ++ (used ++ z) ≡ ((a ∷ b ∷ []) ++ weights ++ used ++ numerators ++ denominators) ++ rest
-together a b weights used numerators denominators rest e f =
-    let front : List ℕ = (a ∷ b ∷ []) ++ weights in
+-- some numbers, four columns and a rest, as a store puts them together and as the words of a table have them
+together : {x z : List ℕ} (numbers weights used numerators denominators rest : List ℕ)
+    → x ≡ numbers ++ weights → z ≡ numerators ++ (denominators ++ rest)
+    → x ++ (used ++ z) ≡ (numbers ++ weights ++ used ++ numerators ++ denominators) ++ rest
+together numbers weights used numerators denominators rest e f =
+    let front : List ℕ = numbers ++ weights in
     rw (e, f)
     (sym (append-assoc (front ++ used ++ numerators) denominators rest
     ∙ append-assoc (front ++ used) numerators (denominators ++ rest)
@@ -41,8 +42,8 @@ long-table words t l = rw (le-ltb (length words) tableLength l)
 pub used-stored : (words used : List ℕ) → tableLength ≤ length words → withColumn words usedOffset used ≡ withTable words (withUsed (tableFrom words) used)
 unfolding withColumn tableFrom wordsOf
 used-stored words used l =
-    together (nth words capacityOffset) (nth words countOffset) (columnFrom words weightsOffset) used (columnFrom words numeratorsOffset) (columnFrom words denominatorsOffset) (drop tableLength words)
-    (two-front words 256 (omega arith))
+    together (nth words capacityOffset ∷ nth words saltOffset ∷ nth words countOffset ∷ []) (columnFrom words weightsOffset) used (columnFrom words numeratorsOffset) (columnFrom words denominatorsOffset) (drop tableLength words)
+    (three-front words 256 (omega arith))
     (column-next words numeratorsOffset ∙ ap (λ (rest : List ℕ). columnFrom words numeratorsOffset ++ rest) (column-next words denominatorsOffset))
     ∙ long-table words (withUsed (tableFrom words) used) l
 

@@ -10,7 +10,7 @@ use lib.Seq.{drop-at}
 use borrow.Author.Tests.{le-ltb}
 use Rattle.table.specs.declared.Table.{Table}
 use Rattle.table.proofs.Soundness.{Arrays}
-use Rattle.table_words.specs.Words.{tableLength, tableFrom, wordsOf, withTable}
+use Rattle.table_words.specs.Words.{weightsOffset, usedOffset, numeratorsOffset, denominatorsOffset, tableLength, tableFrom, wordsOf, withTable}
 use Rattle.table_words.proofs.Lent.{stored-lent}
 use Rattle.upkeep.specs.Upkeep.{withServer, withWeight, withEntry}
 use Rattle.upkeep.proofs.Upkeep.{withServer-arrays, withWeight-arrays, withEntry-arrays}
@@ -30,10 +30,10 @@ use Rattle.call_words.proofs.Columns.{length-column, long-table}
 pub lent-arrays : (words : List ℕ) → tableLength ≤ length words → Arrays (tableFrom words)
 unfolding tableFrom
 lent-arrays words l = record {
-  weights = length-column words 2 (omega arith);
-  used = length-column words 258 (omega arith);
-  numerators = length-column words 514 (omega arith);
-  denominators = length-column words 770 (omega arith);
+  weights = length-column words weightsOffset (omega arith);
+  used = length-column words usedOffset (omega arith);
+  numerators = length-column words numeratorsOffset (omega arith);
+  denominators = length-column words denominatorsOffset (omega arith);
 }
 
 next-arrays : (S : State) (c : Call) → Arrays (S .table) → Arrays (next S c .table)

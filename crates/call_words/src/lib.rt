@@ -25,6 +25,7 @@ use table_words::CAPACITY_OFFSET;
 use table_words::COUNT_OFFSET;
 use table_words::DENOMINATORS_OFFSET;
 use table_words::NUMERATORS_OFFSET;
+use table_words::SALT_OFFSET;
 use table_words::TABLE_LENGTH;
 use table_words::USED_OFFSET;
 use table_words::WEIGHTS_OFFSET;
@@ -47,6 +48,7 @@ fn run_on(
 {
     let shape = Shape {
         capacity: words[CAPACITY_OFFSET],
+        salt: words[SALT_OFFSET],
         count: words[COUNT_OFFSET] as usize,
     };
     let columns: Columns = [

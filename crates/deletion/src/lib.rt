@@ -44,6 +44,7 @@ pub fn delete(table: Table, medium: &mut [u32], tenant: u32, id: u32) -> DeleteA
 {
     let shape = Shape {
         capacity: table.capacity,
+        salt: table.salt,
         count: table.count,
     };
     let steps = draws::steps();

@@ -1,4 +1,4 @@
--- The draw of an id on a server (document 01, "The draw"): xorshift of 32 bits, shifts 13, 17 and 5.
+-- The draw of an id on a server (document 01, "The draw", and document 02, item 4): xorshift of 32 bits, shifts 13, 17 and 5.
 -- Server is document 01's shelf, id its ticket number.
 use Prim.Native.Nat.{ℕ, _+_, _*_, _/_, _%_, _^_}
 use mathlib.Core.Bool.{Bool, cond, _&&_}
@@ -25,8 +25,9 @@ areSteps words = eqb (length words) maxServers && allBelow (λ k. eqb (nth words
 unfoldable pub nonzero : ℕ → ℕ
 nonzero s = cond (eqb s 0) 1 s
 
-unfoldable pub seedOf : ℕ → ℕ → ℕ
-seedOf id k = nonzero ((id + stepOf k) % modulus)
+-- the seed of an id on server k under a salt, document 02's rack key; document 01's seed is that of salt 0
+unfoldable pub seedOf : ℕ → ℕ → ℕ → ℕ
+seedOf salt id k = nonzero ((id + stepOf k + salt) % modulus)
 
 -- s xor s shifted left, the low 32 bits kept; s xor s shifted right
 unfoldable pub xorLeft : ℕ → ℕ → ℕ
@@ -39,5 +40,5 @@ unfoldable pub roundOf : ℕ → ℕ
 roundOf s = xorLeft 5 (xorRight 17 (xorLeft 13 s))
 
 -- the seed after three rounds
-unfoldable pub drawOf : ℕ → ℕ → ℕ
-drawOf id k = roundOf (roundOf (roundOf (seedOf id k)))
+unfoldable pub drawOf : ℕ → ℕ → ℕ → ℕ
+drawOf salt id k = roundOf (roundOf (roundOf (seedOf salt id k)))

@@ -29,13 +29,14 @@ pub fn step(steps: &[u32], server: usize) -> u32
     steps[server]
 }
 
-// The seed of an id on a server, which is never 0.
-pub fn seed(steps: &[u32], id: u32, server: usize) -> u32
+// The seed of an id on a server under a salt. It is never 0.
+pub fn seed(steps: &[u32], salt: u32, id: u32, server: usize) -> u32
     requires { ⌜ areSteps (now steps) ≡ true ⌝ }
     requires { ⌜ server < maxServers ⌝ }
-    ensures { λ r. ⌜ r ≡ seedOf id server ⌝ }
+    ensures { λ r. ⌜ r ≡ seedOf salt id server ⌝ }
 {
-    let s = std::num::wrapping_add_u32(id, step(steps, server));
+    let salted = std::num::wrapping_add_u32(id, salt);
+    let s = std::num::wrapping_add_u32(salted, step(steps, server));
     if s == 0 { 1 } else { s }
 }
 
@@ -48,11 +49,11 @@ pub fn round(s: u32) -> u32
     b ^ (b << 5)
 }
 
-// The draw of an id on a server.
-pub fn draw(steps: &[u32], id: u32, server: usize) -> u32
+// The draw of an id on a server under a salt.
+pub fn draw(steps: &[u32], salt: u32, id: u32, server: usize) -> u32
     requires { ⌜ areSteps (now steps) ≡ true ⌝ }
     requires { ⌜ server < maxServers ⌝ }
-    ensures { λ r. ⌜ r ≡ drawOf id server ⌝ }
+    ensures { λ r. ⌜ r ≡ drawOf salt id server ⌝ }
 {
-    round(round(round(seed(steps, id, server))))
+    round(round(round(seed(steps, salt, id, server))))
 }

@@ -70,11 +70,11 @@ sequence (call ∷ calls) R l =
     ∙ sym (after-joined (lent (R .table) (R .medium)) (callIn call) (callsOf calls))
 
 -- from a start over n blank words: the state that the third demand speaks of
-pub sequence-started : (capacity n : ℕ) (words : List ℕ) → tableLength ≤ length words → (calls : List (List ℕ))
-    → let R : Runs = record { table = withTable words (startTable capacity); medium = replicate n blank } in
-    lent (afterCalls R calls .table) (afterCalls R calls .medium) ≡ after (begin capacity n) (callsOf calls)
+pub sequence-started : (capacity salt n : ℕ) (words : List ℕ) → tableLength ≤ length words → (calls : List (List ℕ))
+    → let R : Runs = record { table = withTable words (startTable capacity salt); medium = replicate n blank } in
+    lent (afterCalls R calls .table) (afterCalls R calls .medium) ≡ after (begin capacity salt n) (callsOf calls)
 unfolding begin
-sequence-started capacity n words l calls =
-    let a = start-arrays capacity in
-    sequence calls _ (omega (arith, length-stored words (startTable capacity) l a))
-    ∙ ap (λ (t : Table). after (record { table = t; medium = replicate n blank }) (callsOf calls)) (stored-lent words (startTable capacity) l a)
+sequence-started capacity salt n words l calls =
+    let a = start-arrays capacity salt in
+    sequence calls _ (omega (arith, length-stored words (startTable capacity salt) l a))
+    ∙ ap (λ (t : Table). after (record { table = t; medium = replicate n blank }) (callsOf calls)) (stored-lent words (startTable capacity salt) l a)

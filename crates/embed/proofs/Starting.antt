@@ -13,15 +13,15 @@ use Rattle.encoding.specs.Encoding.{tooShort}
 use Rattle.embed.specs.Embed.{startNumber}
 
 -- what `archive_start` ensures where it answers n
-abbrev pub Started : ℕ → List ℕ → ℕ → List ℕ → Type 0
-Started capacity words n words′ = (n ≡ startNumber capacity words) × (words′ ≡ withTable words (startTable capacity))
+abbrev pub Started : ℕ → ℕ → List ℕ → ℕ → List ℕ → Type 0
+Started capacity salt words n words′ = (n ≡ startNumber capacity salt words) × (words′ ≡ withTable words (startTable capacity salt))
 
-module _ (capacity : ℕ) (words : List ℕ) where
-  pub start-short : length words < tableLength → Started capacity words tooShort words
+module _ (capacity salt : ℕ) (words : List ℕ) where
+  pub start-short : length words < tableLength → Started capacity salt words tooShort words
   unfolding startNumber withTable
   start-short l = (rw (lt-leb _ _ l), rw (lt-ltb _ _ l))
 
-  pub start-stored : tableLength ≤ length words → (r : Reply) (t : Table) (words′ : List ℕ) → r ≡ startReply capacity → t ≡ startTable capacity → words′ ≡ withTable words t
-      → Started capacity words (r .refusal) words′
+  pub start-stored : tableLength ≤ length words → (r : Reply) (t : Table) (words′ : List ℕ) → r ≡ startReply capacity salt → t ≡ startTable capacity salt → words′ ≡ withTable words t
+      → Started capacity salt words (r .refusal) words′
   unfolding startNumber
   start-stored l r t words′ e f g = (ap (λ (x : Reply). x .refusal) e ∙ rw (le-leb _ _ l), rw f at g)

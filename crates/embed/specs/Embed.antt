@@ -10,8 +10,8 @@ use Rattle.encoding.specs.Encoding.{tooShort}
 
 -- the version of the interface: it grows when a signature or an encoding changes
 abbrev pub version : ℕ
-version = 2
+version = 3
 
 -- the number that a start answers, by the words lent for its table
-unfoldable pub startNumber : ℕ → List ℕ → ℕ
-startNumber capacity table = cond (leb tableLength (length table)) (startReply capacity .refusal) tooShort
+unfoldable pub startNumber : ℕ → ℕ → List ℕ → ℕ
+startNumber capacity salt table = cond (leb tableLength (length table)) (startReply capacity salt .refusal) tooShort

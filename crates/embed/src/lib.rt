@@ -15,7 +15,7 @@ ghost use Rattle.batch_words.specs.BatchWords.{afterBatch};
 ghost use Rattle.embed.specs.Embed.{version, startNumber};
 
 // The version of the interface: it grows when a signature or an encoding changes.
-const VERSION: u32 = 2;
+const VERSION: u32 = 3;
 
 #[no_mangle]
 pub extern "C" fn archive_abi() -> u32
@@ -31,16 +31,16 @@ pub extern "C" fn archive_table_words() -> usize
     table_words::TABLE_LENGTH
 }
 
-// Stores a table of no server, or of all zeros where the capacity is refused.
+// Stores a table of no server, or of all zeros where the capacity or the salt is refused.
 #[no_mangle]
-pub extern "C" fn archive_start(capacity: u32, table: &mut [u32]) -> u32
-    ensures number { λ r. ⌜ r ≡ startNumber capacity (now (table .entry)) ⌝ }
-    ensures table { λ _. ⌜ now (table .exit) ≡ withTable (now (table .entry)) (startTable capacity) ⌝ }
+pub extern "C" fn archive_start(capacity: u32, salt: u32, table: &mut [u32]) -> u32
+    ensures number { λ r. ⌜ r ≡ startNumber capacity salt (now (table .entry)) ⌝ }
+    ensures table { λ _. ⌜ now (table .exit) ≡ withTable (now (table .entry)) (startTable capacity salt) ⌝ }
 {
     if table.len() < table_words::TABLE_LENGTH {
         return encoding::TOO_SHORT;
     }
-    let begun = servers::start(capacity);
+    let begun = servers::start(capacity, salt);
     let answer = begun.answer;
     let reply = replies::start_reply(answer);
     table_words::store_table(table, begun.table);
@@ -67,17 +67,18 @@ pub extern "C" fn archive_call(
 #[no_mangle]
 pub extern "C" fn archive_replay(
     capacity: u32,
+    salt: u32,
     calls: &[u32],
     medium: &mut [u32],
     replies: &mut [u32],
 ) -> usize
-    ensures number { λ r. ⌜ r ≡ runs capacity (now (calls .entry)) (now (replies .entry)) ⌝ }
-    ensures words { λ r. ⌜ now (medium .exit) ≡ after (startState capacity (now (medium .entry))) (callsBelow (now (calls .entry)) r) .medium ⌝ }
+    ensures number { λ r. ⌜ r ≡ runs capacity salt (now (calls .entry)) (now (replies .entry)) ⌝ }
+    ensures words { λ r. ⌜ now (medium .exit) ≡ after (startState capacity salt (now (medium .entry))) (callsBelow (now (calls .entry)) r) .medium ⌝ }
     ensures replies { λ r. ⌜ now (replies .exit)
-        ≡ withReplies (replyAt (startState capacity (now (medium .entry))) (now (calls .entry))) r (now (replies .entry)) ⌝ }
-    ensures ledger { λ r. ⌜ LedgerWords capacity (now (medium .entry)) (now (calls .entry)) r (now (replies .exit)) ⌝ }
+        ≡ withReplies (replyAt (startState capacity salt (now (medium .entry))) (now (calls .entry))) r (now (replies .entry)) ⌝ }
+    ensures ledger { λ r. ⌜ LedgerWords capacity salt (now (medium .entry)) (now (calls .entry)) r (now (replies .exit)) ⌝ }
 {
-    replay::replay(capacity, calls, medium, replies)
+    replay::replay(capacity, salt, calls, medium, replies)
 }
 
 // Runs a list of calls on a lent table.
@@ -98,15 +99,20 @@ pub extern "C" fn archive_resume(
     replay::resume(table, calls, medium, replies)
 }
 
-// Stores the write servers of ids.
+// Stores the write servers of ids under a salt.
 #[no_mangle]
-pub extern "C" fn archive_picks(weights: &[u32], ids: &[u32], servers: &mut [u32]) -> usize
-    ensures number { λ r. ⌜ r ≡ picksOf (now (weights .entry)) (now (ids .entry)) (now (servers .entry)) ⌝ }
+pub extern "C" fn archive_picks(
+    weights: &[u32],
+    salt: u32,
+    ids: &[u32],
+    servers: &mut [u32],
+) -> usize
+    ensures number { λ r. ⌜ r ≡ picksOf (now (weights .entry)) salt (now (ids .entry)) (now (servers .entry)) ⌝ }
     ensures servers { λ r. ⌜ now (servers .exit)
-        ≡ setBelow (λ i. writeServer (nth (now (weights .entry))) (length (now (weights .entry))) (nth (now (ids .entry)) i)) r
+        ≡ setBelow (λ i. writeServer (nth (now (weights .entry))) (length (now (weights .entry))) salt (nth (now (ids .entry)) i)) r
         (now (servers .entry)) ⌝ }
 {
-    picks::picks(weights, ids, servers)
+    picks::picks(weights, salt, ids, servers)
 }
 
 // Looks many ids up together for a tenant, and stores each id's reply, the order of finding and the number of servers opened.

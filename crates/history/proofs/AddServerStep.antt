@@ -1,9 +1,9 @@
 -- An added server on both sides.
 -- Assumes nothing.
 use Prim.Native.Nat.{ℕ, suc, _+_, _*_, _≤_, _<_}
-use mathlib.Core.Path.{_≡_, sym, ap, ap₂, _∙_}
+use mathlib.Core.Path.{_≡_, refl, sym, ap, ap₂, _∙_}
 use mathlib.Core.Logic.{_≢_}
-use mathlib.Core.Bool.{true}
+use mathlib.Core.Bool.{Bool, true}
 use mathlib.Core.List.{List}
 use native.Mathlib.Omega.{arith}
 use native.Mathlib.Nat.{add-zero}
@@ -14,7 +14,7 @@ use Rattle.limits.specs.Limits.{contentRange}
 use Rattle.lists.specs.Below.{nth}
 use Rattle.lists.proofs.Tests.{byBool}
 use Rattle.placement.specs.declared.Fraction.{Fraction}
-use Rattle.placement.specs.Rule.{writeP}
+use Rattle.placement.specs.Rule.{writeP, readable}
 use Rattle.placement.proofs.Rules.{writeP-cong, readable-cong}
 use Rattle.medium.specs.Word.{blank}
 use Rattle.medium.specs.Entry.{serverAt, entryAt, bears, blankRun}
@@ -38,7 +38,7 @@ use Rattle.history.proofs.Holds.{Holds}
 use Rattle.history.proofs.Agree.{Agree, put-other, put-is, Step, settled, same-address}
 
 -- the medium with one server more, whose words lie inside it. Plain numbers and lists.
-module _ {capacity count : ℕ} {greatest : ℕ → Fraction} {events : List Event} {m : List ℕ} (H : Holds capacity count greatest events m)
+module _ {capacity count : ℕ} {rule : ℕ → ℕ → Bool} {events : List Event} {m : List ℕ} (H : Holds capacity count rule events m)
     (room : serverAt capacity (suc count) ≤ length m) where
   new-blank : (j q : ℕ) → j < capacity → q < 3 → nth m (entryAt capacity count j + q) ≡ blank
   new-blank j q i b = H .rest (entryAt capacity count j + q) (entry-above capacity count j q) (omega (arith, entry-in capacity (suc count) count j q (omega arith) i b))
@@ -46,7 +46,7 @@ module _ {capacity count : ℕ} {greatest : ℕ → Fraction} {events : List Eve
   not-borne : (id j : ℕ) → id < contentRange → j < capacity → bears capacity m id count j ≡ true → ⊥
   not-borne id j n i b = omega (arith, bears-id capacity m id count j b, rw add-zero at (new-blank j 0 i (omega arith)))
 
-  wider-holds : (wider : ℕ → Fraction) → ((k : ℕ) → k < count → wider k ≡ greatest k) → Holds capacity (suc count) wider events m
+  wider-holds : (wider : ℕ → ℕ → Bool) → ((id k : ℕ) → k < count → wider id k ≡ rule id k) → Holds capacity (suc count) wider events m
   wider-holds wider same = record {
     long = room;
     rest = λ a l i. H .rest a (omega (arith, server-le capacity count (suc count) (omega arith))) i;
@@ -60,7 +60,7 @@ module _ {capacity count : ℕ} {greatest : ℕ → Fraction} {events : List Eve
         (λ d. absurd (not-borne id j n i (rw (eqb-true k count d) at b)))
         (λ d.
         let l′ : k < count = omega (arith, eqb-false k count d) in
-        readable-cong wider greatest id k (same k l′) ∙ H .opens id k j n l′ i b);
+        same id k l′ ∙ H .opens id k j n l′ i b);
     tops = λ id n. top-wider (bears capacity m id) count capacity (λ j i b. not-borne id j n i b) (placeOf events id) (H .tops id n);
   }
 
@@ -119,13 +119,14 @@ module _ {t : Table} {m : List ℕ} {L : Ledger} (A : Agree t m L) (weight : ℕ
       isSound = withServer-sound t weight (A .arrays) (A .isSound) few light;
       arrays = withServer-arrays t weight (A .arrays);
       capacity = A .capacity;
+      salt = A .salt;
       count = ap suc (A .count);
       weights = new-weight;
       used = new-used;
       readPs = new-read;
       words = A .words;
-      holds = wider-holds (A .holds) room greatest
-          (λ k l. put-other (L .greatest) (L .servers) (writeP weights (L .servers)) k (λ e. omega (arith, A .count)));
+      holds = wider-holds (A .holds) room (readable greatest (L .salt))
+          (λ id k l. readable-cong greatest (L .greatest) _ _ id k refl (put-other (L .greatest) (L .servers) (writeP weights (L .servers)) k (λ e. omega (arith, A .count))));
     }
 
   pub add-server-step : Step (addServerReply t m weight) (addServerTable t m weight) m (enter L (addServer weight))

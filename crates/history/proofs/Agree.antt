@@ -13,9 +13,7 @@ use lib.Dec.{ltb, eqb}
 use borrow.Author.Tests.{eqb-true, eqb-false, eq-eqb, ne-eqb}
 use Rattle.limits.specs.Limits.{contentRange}
 use Rattle.lists.proofs.Tests.{byBool}
-use Rattle.draws.specs.Draw.{modulus, drawOf}
-use Rattle.placement.specs.Rule.{pick, writeServer, readable}
-use Rattle.placement.proofs.Rules.{pick-cong, readable-cong}
+use Rattle.placement.proofs.Rules.{readable-cong, writeServer-cong}
 use Rattle.medium.specs.Entry.{serverAt, bears, live}
 use Rattle.medium.specs.Burn.{marksOver}
 use Rattle.medium.proofs.Entries.{live-i, live-used, live-bears}
@@ -33,7 +31,7 @@ use Rattle.search.specs.Search.{Place, searchFor}
 use Rattle.search.proofs.Searches.{met-some, met-none}
 use Rattle.planning.specs.WriteRows.{target}
 use Rattle.history.specs.Call.{compared}
-use Rattle.history.specs.Ledger.{Ledger, Entered, enterBy, put, usedBy, shortL, askedRowsL, targetL}
+use Rattle.history.specs.Ledger.{Ledger, Entered, enterBy, put, usedBy, shortL, askedRowsL, targetL, readsL}
 use Rattle.history.proofs.Tops.{TopAt, top-same}
 use Rattle.history.proofs.Events.{placeOf}
 use Rattle.history.proofs.Entering.{entered}
@@ -43,12 +41,13 @@ pub record Agree (t : Table) (m : List ℕ) (L : Ledger) : Type 0 where
   pub isSound : sound t ≡ true
   pub arrays : Arrays t
   pub capacity : t .capacity ≡ L .capacity
+  pub salt : t .salt ≡ L .salt
   pub count : t .count ≡ L .servers
   pub weights : (k : ℕ) → k < t .count → weightOf t k ≡ L .weight k
   pub used : (k : ℕ) → k < t .count → usedOf t k ≡ usedBy (L .events) k
   pub readPs : (k : ℕ) → k < t .count → readP t k ≡ L .greatest k
   pub words : length m ≡ L .words
-  pub holds : Holds (t .capacity) (t .count) (L .greatest) (L .events) m
+  pub holds : Holds (t .capacity) (t .count) (readsL L) (L .events) m
 
 -- the ledger's way to change one place
 module _ {X : Type 0} (f : ℕ → X) (k : ℕ) (x : X) where
@@ -103,11 +102,11 @@ module _ {t : Table} {m : List ℕ} {L : Ledger} (A : Agree t m L) where
   same-asked tenant id outside = rw (A .isSound, ap (λ (c : ℕ). eqb c 0) (A .count), same-short)
 
   pub same-target : (id : ℕ) → target t id ≡ targetL L id
-  unfolding target targetL writeServer
-  same-target id = pick-cong modulus (drawOf id) (weightOf t) (L .weight) (t .count) (A .weights) ∙ ap (pick modulus (drawOf id) (L .weight)) (A .count)
+  unfolding target targetL
+  same-target id = writeServer-cong (weightOf t) (L .weight) _ _ _ _ id (A .weights) (A .count) (A .salt)
 
-  pub same-reads : (id k : ℕ) → k < t .count → reads t id k ≡ readable (L .greatest) id k
-  same-reads id k l = readable-cong (readP t) (L .greatest) id k (A .readPs k l)
+  pub same-reads : (id k : ℕ) → k < t .count → reads t id k ≡ readsL L id k
+  same-reads id k l = readable-cong (readP t) (L .greatest) _ _ id k (A .salt) (A .readPs k l)
 
   -- the same marks
   pub same-marks : (id : ℕ) (p q : ℕ → Bool) → ((k : ℕ) → k < t .count → p k ≡ q k)

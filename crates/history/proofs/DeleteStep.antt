@@ -6,7 +6,6 @@ use mathlib.Core.Path.{_≡_, refl, ap, _∙_}
 use mathlib.Core.List.{List}
 use mathlib.Core.Option.{Option, none, some}
 use Rattle.limits.specs.Limits.{contentRange}
-use Rattle.placement.specs.Rule.{readable}
 use Rattle.medium.specs.Word.{deleted}
 use Rattle.medium.specs.Burn.{burnAll, invalidations}
 use Rattle.medium.proofs.Burns.{length-burnAll}
@@ -19,7 +18,7 @@ use Rattle.checks.proofs.Passed.{asked-numbered, asked-accepted}
 use Rattle.deletion.proofs.Done.{delete-all, delete-ready}
 use Rattle.deletion.specs.Deletion.{isMet, deleteRows, deleteMarks, deleteReply, deleteMedium}
 use Rattle.history.specs.Call.{delete, compared}
-use Rattle.history.specs.Ledger.{removed, Ledger, Version, usedBy, lastWriteOf, isWritten, withEvent, deleteRowsL, rowsOf, doneOf, enter}
+use Rattle.history.specs.Ledger.{removed, Ledger, Version, usedBy, lastWriteOf, isWritten, withEvent, deleteRowsL, rowsOf, doneOf, enter, readsL}
 use Rattle.history.proofs.Events.{placeOf, came-placed, none-placed}
 use Rattle.history.proofs.DeletedMedium.{afterDelete, delete-holds}
 use Rattle.history.proofs.Agree.{Agree, Step, settled, same-asked, ledger-numbered, same-reads, same-marks, same-met}
@@ -42,8 +41,8 @@ module _ {t : Table} {m : List ℕ} {L : Ledger} (A : Agree t m L) (id : ℕ) wh
   accepted-id tenant z = asked-accepted t m tenant id false (delete-ready t m tenant id z) .small
 
   -- the medium that an accepted delete leaves
-  pub delete-medium : burnAll m (invalidations deleted (deleteMarks t m id)) ≡ afterDelete (t .capacity) (t .count) (L .greatest) (L .events) m id
-  delete-medium = ap (λ (marks : List ℕ). burnAll m (invalidations deleted marks)) (delete-all t m id ∙ same-marks A id (reads t id) (readable (L .greatest) id) (same-reads A id))
+  pub delete-medium : burnAll m (invalidations deleted (deleteMarks t m id)) ≡ afterDelete (t .capacity) (t .count) (readsL L) (L .events) m id
+  delete-medium = ap (λ (marks : List ℕ). burnAll m (invalidations deleted marks)) (delete-all t m id ∙ same-marks A id (reads t id) (readsL L id) (same-reads A id))
 
   agrees : id < contentRange → Agree t (burnAll m (invalidations deleted (deleteMarks t m id))) (withEvent L (removed id))
   unfolding withEvent usedBy
@@ -51,6 +50,7 @@ module _ {t : Table} {m : List ℕ} {L : Ledger} (A : Agree t m L) (id : ℕ) wh
     isSound = A .isSound;
     arrays = A .arrays;
     capacity = A .capacity;
+    salt = A .salt;
     count = A .count;
     weights = A .weights;
     used = A .used;

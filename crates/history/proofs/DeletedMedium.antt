@@ -3,15 +3,13 @@
 use Prim.Native.Nat.{ℕ, _<_}
 use mathlib.Core.Path.{_≡_, refl, sym, _∙_, subst}
 use mathlib.Core.Logic.{_≢_}
-use mathlib.Core.Bool.{true, _&&_, not}
+use mathlib.Core.Bool.{Bool, true, _&&_, not}
 use mathlib.Core.List.{List, _∷_}
 use native.Mathlib.Omega.{arith}
 use lib.Dec.{eqb}
 use borrow.Author.Tests.{eqb-true, eqb-false}
 use Rattle.limits.specs.Limits.{contentRange}
 use Rattle.lists.proofs.Tests.{byBool, iff-eq, except}
-use Rattle.placement.specs.declared.Fraction.{Fraction}
-use Rattle.placement.specs.Rule.{readable}
 use Rattle.medium.specs.Word.{deleted}
 use Rattle.medium.specs.Entry.{bears}
 use Rattle.medium.specs.Burn.{burnAll, marksOver, invalidations}
@@ -22,15 +20,15 @@ use Rattle.history.proofs.Holds.{Holds, once-written}
 use Rattle.history.proofs.MarkedMedium.{Invalidated, invalidated}
 
 -- the medium with every entry of the id on readable servers invalidated
-abbrev pub afterDelete : ℕ → ℕ → (ℕ → Fraction) → List Event → List ℕ → ℕ → List ℕ
-afterDelete capacity count greatest events m id = burnAll m (invalidations deleted (marksOver capacity (usedBy events) m id (readable greatest id) count))
+abbrev pub afterDelete : ℕ → ℕ → (ℕ → ℕ → Bool) → List Event → List ℕ → ℕ → List ℕ
+afterDelete capacity count rule events m id = burnAll m (invalidations deleted (marksOver capacity (usedBy events) m id (rule id) count))
 
-module _ {capacity count : ℕ} {greatest : ℕ → Fraction} {events : List Event} {m : List ℕ} (H : Holds capacity count greatest events m) (id : ℕ) (small : id < contentRange) where
+module _ {capacity count : ℕ} {rule : ℕ → ℕ → Bool} {events : List Event} {m : List ℕ} (H : Holds capacity count rule events m) (id : ℕ) (small : id < contentRange) where
   abbrev N : List ℕ
-  N = afterDelete capacity count greatest events m id
+  N = afterDelete capacity count rule events m id
 
-  done : Invalidated capacity count events m id (readable greatest id) m N
-  done = invalidated H id small (readable greatest id) m refl (λ k j q l u b. refl) deleted (omega arith)
+  done : Invalidated capacity count events m id (rule id) m N
+  done = invalidated H id small (rule id) m refl (λ k j q l u b. refl) deleted (omega arith)
 
   none-left : (k j : ℕ) → k < count → j < capacity → bears capacity N id k j ≡ true → ⊥
   none-left k j l i b = let o = done .less id k j i b in done .gone k j l i (H .opens id k j small l i o) o b
@@ -47,7 +45,7 @@ module _ {capacity count : ℕ} {greatest : ℕ → Fraction} {events : List Eve
       (λ k j l i. iff-eq _ _ (done .less a k j i) (done .others a k j l i f))
       (placeOf events a) (H .tops a n)
 
-  pub delete-holds : Holds capacity count greatest (removed id ∷ events) N
+  pub delete-holds : Holds capacity count rule (removed id ∷ events) N
   unfolding usedBy placeOf TopAt
   delete-holds = record {
     long = omega (arith, H .long, done .long);

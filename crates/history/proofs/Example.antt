@@ -21,7 +21,7 @@ use Rattle.medium.specs.Word.{blank, deleted}
 use Rattle.medium.specs.Entry.{serverAt, serverWords, entryAt, bearsAt, live, blankRun}
 use Rattle.medium.specs.Burn.{Burn, burnAll, marksOn, marksOver, invalidations}
 use Rattle.table.specs.declared.Table.{Table}
-use Rattle.table.specs.Sound.{readSound, serverSound, sound}
+use Rattle.table.specs.Sound.{inRange, readSound, serverSound, sound}
 use Rattle.upkeep.specs.Upkeep.{withServer, withWeight, oneMore, withEntry}
 use Rattle.replies.specs.Refusal.{Row, _when_, firstOf, settle}
 use Rattle.replies.specs.Reply.{refused, found, replyBy}
@@ -137,7 +137,7 @@ module _ (rest : List ℕ) where
 
 -- the tables and the media of the example over 36 words, each by the number of calls before it
 abbrev T0 : Table
-T0 = startTable 4
+T0 = startTable 4 0
 
 abbrev T1 : Table
 T1 = withServer T0 1
@@ -171,13 +171,13 @@ M9 = set M7 2 2147483650
 
 -- the example over 36 words, and that words after these have no bearing on it
 record Over36 : Type 0 where
-  accepted : firstOf (startRows 4) ≡ 0
-  said : replies (begin 4 36) calls ≡ expected
-  left : after (begin 4 36) calls .medium ≡ M9
+  accepted : firstOf (startRows 4 0) ≡ 0
+  said : replies (begin 4 0 36) calls ≡ expected
+  left : after (begin 4 0 36) calls .medium ≡ M9
   longer : (rest : List ℕ) → Alike rest T0 M0 calls
 
 over-36 : Over36
-unfolding calls expected below allBelow highest orZero upward countBelow total setBelow stepOf nonzero seedOf xorLeft xorRight roundOf drawOf exceeds atLeast raise shareOf writeP takes pick writeServer readable serverAt entryAt bearsAt live blankRun burnAll marksOn marksOver invalidations readSound serverSound sound withServer withWeight oneMore withEntry firstOf settle replyBy lastLive opening searchBelow searchFor startRows startTable addServerRows addServerReply addServerTable reweightRows reweightReply reweightTable short readyRows askedRows tenantOf outOfRange ofAnother target entryRows writeRows writeMarks writeBurns writeReply writeTable writeMedium isMet deleteRows deleteMarks deleteReply deleteMedium lookupRows metReply lookupReply reply next after replies begin
+unfolding calls expected below allBelow highest orZero upward countBelow total setBelow stepOf nonzero seedOf xorLeft xorRight roundOf drawOf exceeds atLeast raise shareOf writeP takes pick writeServer readable serverAt entryAt bearsAt live blankRun burnAll marksOn marksOver invalidations inRange readSound serverSound sound withServer withWeight oneMore withEntry firstOf settle replyBy lastLive opening searchBelow searchFor startRows startTable addServerRows addServerReply addServerTable reweightRows reweightReply reweightTable short readyRows askedRows tenantOf outOfRange ofAnother target entryRows writeRows writeMarks writeBurns writeReply writeTable writeMedium isMet deleteRows deleteMarks deleteReply deleteMedium lookupRows metReply lookupReply reply next after replies begin
 over-36 = record {
   accepted = refl;
   said = refl;
@@ -208,12 +208,12 @@ example n h =
     let rest = replicate (n - 36) blank in
     let e = ap (state T0) (blank-words n h) in
     let a = over-36 .longer rest in
-    let machine : replies (begin 4 n) calls ≡ expected = ap (λ (S : State). replies S calls) e ∙ a .said ∙ over-36 .said in
-    let left : after (begin 4 n) calls .medium ≡ M9 ++ replicate (n - 36) blank =
+    let machine : replies (begin 4 0 n) calls ≡ expected = ap (λ (S : State). replies S calls) e ∙ a .said ∙ over-36 .said in
+    let left : after (begin 4 0 n) calls .medium ≡ M9 ++ replicate (n - 36) blank =
     ap (λ (S : State). after S calls .medium) e ∙ a .left ∙ ap (λ (m : List ℕ). m ++ replicate (n - 36) blank) (over-36 .left) in
     record {
       machine = machine;
-      ledger = sym (demand3 4 n (over-36 .accepted) calls .alike) ∙ ap (map compared) machine;
+      ledger = sym (demand3 4 0 n (over-36 .accepted) calls .alike) ∙ ap (map compared) machine;
       word24 = ap (λ (m : List ℕ). nth m 24) left;
       word25 = ap (λ (m : List ℕ). nth m 25) left;
       word26 = ap (λ (m : List ℕ). nth m 26) left;

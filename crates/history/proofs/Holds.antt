@@ -3,7 +3,7 @@
 use Prim.Native.Nat.{ℕ, _+_, _≤_, _<_}
 use mathlib.Core.Path.{_≡_, sym, _∙_}
 use mathlib.Core.Logic.{_≢_}
-use mathlib.Core.Bool.{true}
+use mathlib.Core.Bool.{Bool, true}
 use mathlib.Core.List.{List}
 use native.Mathlib.Omega.{arith}
 use native.Mathlib.Nat.{add-zero}
@@ -13,8 +13,6 @@ use borrow.Author.Tests.{ltb-true, ltb-false, eqb-true, eqb-false}
 use Rattle.limits.specs.Limits.{contentRange}
 use Rattle.lists.specs.Below.{nth}
 use Rattle.lists.proofs.Tests.{byBool}
-use Rattle.placement.specs.declared.Fraction.{Fraction}
-use Rattle.placement.specs.Rule.{readable}
 use Rattle.medium.specs.Word.{idWord, valueWord, blank}
 use Rattle.medium.specs.Entry.{serverAt, entryAt, valueAt, bears}
 use Rattle.medium.proofs.Entries.{bears-id}
@@ -29,8 +27,8 @@ pub record InEntry (capacity : ℕ) (m : List ℕ) (id value server j : ℕ) : T
   pub idSmall : id < contentRange
   pub valueSmall : value < contentRange
 
--- the medium m of `count` servers after the events, read by the fractions `greatest`
-pub record Holds (capacity count : ℕ) (greatest : ℕ → Fraction) (events : List Event) (m : List ℕ) : Type 0 where
+-- the medium m of `count` servers after the events, `rule` saying which servers are read for an id
+pub record Holds (capacity count : ℕ) (rule : ℕ → ℕ → Bool) (events : List Event) (m : List ℕ) : Type 0 where
   -- every server lies inside; past the last one, and from its used on in each, all is blank
   pub long : serverAt capacity count ≤ length m
   pub rest : (a : ℕ) → serverAt capacity count ≤ a → a < length m → nth m a ≡ blank
@@ -40,10 +38,10 @@ pub record Holds (capacity count : ℕ) (greatest : ℕ → Fraction) (events : 
   -- each write has its words in its entry
   pub written : EachWrite events (λ newer older id value server. InEntry capacity m id value server (usedBy older server))
   -- what bears an id is readable for it, and the top one is that of its last write
-  pub opens : (id k j : ℕ) → id < contentRange → k < count → j < capacity → bears capacity m id k j ≡ true → readable greatest id k ≡ true
+  pub opens : (id k j : ℕ) → id < contentRange → k < count → j < capacity → bears capacity m id k j ≡ true → rule id k ≡ true
   pub tops : (id : ℕ) → id < contentRange → TopAt (bears capacity m id) count capacity (placeOf events id)
 
-module _ {capacity count : ℕ} {greatest : ℕ → Fraction} {events : List Event} {m : List ℕ} (H : Holds capacity count greatest events m) where
+module _ {capacity count : ℕ} {rule : ℕ → ℕ → Bool} {events : List Event} {m : List ℕ} (H : Holds capacity count rule events m) where
   free-id : (k j : ℕ) → k < count → usedBy events k ≤ j → j < capacity → nth m (entryAt capacity k j) ≡ blank
   free-id k j l u i = rw add-zero at (H .free k j 0 l u i (omega arith))
 

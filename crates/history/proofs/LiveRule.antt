@@ -2,14 +2,13 @@
 -- Assumes nothing.
 use Prim.Native.Nat.{ℕ, _<_}
 use mathlib.Core.Path.{_≡_, sym, _∙_, subst}
-use mathlib.Core.Bool.{not, _&&_, _||_, and-comm}
+use mathlib.Core.Bool.{Bool, not, _&&_, _||_, and-comm}
 use mathlib.Core.List.{List, [], _∷_}
 use native.Mathlib.Omega.{arith}
 use lib.Dec.{leb, ltb, eqb}
 use borrow.Author.Tests.{lt-ltb, le-ltb, leb-true, leb-false}
 use Rattle.limits.specs.Limits.{contentRange}
 use Rattle.lists.proofs.Tests.{byBool}
-use Rattle.placement.specs.declared.Fraction.{Fraction}
 use Rattle.medium.specs.Word.{deleted}
 use Rattle.medium.specs.Entry.{bears, live}
 use Rattle.medium.specs.Burn.{burnAll, invalidations}
@@ -23,7 +22,7 @@ use Rattle.writing.specs.Writing.{writeBurns, writeMedium}
 use Rattle.server_rows.specs.ServerRows.{startRows}
 use Rattle.history.specs.Call.{Call, addServer, reweight, write, delete, lookup, batch}
 use Rattle.history.specs.Machine.{State, next, after, begin}
-use Rattle.history.specs.Ledger.{Event, wrote, removed, Ledger, Entered, enterBy, freshLedger, usedBy, addServerRowsL, withServerL, reweightRowsL, withWeightL, withEvent, writeRowsL, deleteRowsL, lookupRowsL, batchRowsL, rowsOf, doneOf, enter, ledgerAfter}
+use Rattle.history.specs.Ledger.{Event, wrote, removed, Ledger, Entered, enterBy, freshLedger, usedBy, addServerRowsL, withServerL, reweightRowsL, withWeightL, withEvent, writeRowsL, deleteRowsL, lookupRowsL, batchRowsL, rowsOf, doneOf, enter, ledgerAfter, readsL}
 use Rattle.history.specs.Demand3.{stateThen, ledgerThen}
 use Rattle.history.specs.LiveRule.{staysLive, LiveRule}
 use Rattle.history.proofs.Events.{EachWrite, each-none, each-wrote, each-removed, used-write}
@@ -48,15 +47,15 @@ not-taken id a server k = byBool (eqb id a)
     (λ c. rw (c, lt-ltb k server (leb-false server k c)))))
     (λ d. rw d)
 
-module _ {capacity count : ℕ} {greatest : ℕ → Fraction} {events : List Event} {m : List ℕ} (H : Holds capacity count greatest events m) (R : Ruled capacity events m) where
-  write-ruled : {id value server : ℕ} → Accepted capacity count greatest events id value server
-      → Ruled capacity (wrote id value server ∷ events) (afterWrite capacity count greatest events m id value server)
+module _ {capacity count : ℕ} {rule : ℕ → ℕ → Bool} {events : List Event} {m : List ℕ} (H : Holds capacity count rule events m) (R : Ruled capacity events m) where
+  write-ruled : {id value server : ℕ} → Accepted capacity count rule events id value server
+      → Ruled capacity (wrote id value server ∷ events) (afterWrite capacity count rule events m id value server)
   unfolding staysLive
   write-ruled {id} {value} {server} W = each-wrote _ (new-borne H W) (λ newer older a v k e.
       old-borne H W a k (usedBy older k) (write-there H newer older a v k e) (used-write events newer older a v k e)
       ∙ rw (R newer older a v k e, not-taken id a server k) (and-comm (staysLive a k newer) (not (eqb id a) || ltb k server)))
 
-  delete-ruled : (id : ℕ) → id < contentRange → Ruled capacity (removed id ∷ events) (afterDelete capacity count greatest events m id)
+  delete-ruled : (id : ℕ) → id < contentRange → Ruled capacity (removed id ∷ events) (afterDelete capacity count rule events m id)
   unfolding staysLive
   delete-ruled id small = each-removed _ (λ newer older a v k e.
       borne H id small a k (usedBy older k) (write-there H newer older a v k e) (omega (arith, H .fits k, used-write events newer older a v k e))
@@ -89,14 +88,14 @@ module _ {t : Table} {m : List ℕ} {L : Ledger} (A : Agree t m L) (R : Rules L 
       let W = accepted A tenant id value z in
       let server = target t id in
       rw (write-medium A tenant id value (W .there), ← (same-target A id))
-      (subst (λ (c : ℕ). Ruled c (wrote id value server ∷ L .events) (afterWrite (t .capacity) (t .count) (L .greatest) (L .events) m id value server)) (A .capacity)
+      (subst (λ (c : ℕ). Ruled c (wrote id value server ∷ L .events) (afterWrite (t .capacity) (t .count) (readsL L) (L .events) m id value server)) (A .capacity)
       (write-ruled (A .holds) table-ruled W)))
 
   delete-rules : (tenant id : ℕ) → Rules (enter L (delete tenant id) .ledger) (deleteMedium t m tenant id)
   unfolding enter rowsOf doneOf withEvent deleteMedium
   delete-rules tenant id = settled-rules L m R (deleteRows t m tenant id) (deleteRowsL L tenant id) (same-delete A id tenant) _ (burnAll m (invalidations deleted (deleteMarks t m id)))
       (λ z. rw (delete-medium A id)
-      (subst (λ (c : ℕ). Ruled c (removed id ∷ L .events) (afterDelete (t .capacity) (t .count) (L .greatest) (L .events) m id)) (A .capacity)
+      (subst (λ (c : ℕ). Ruled c (removed id ∷ L .events) (afterDelete (t .capacity) (t .count) (readsL L) (L .events) m id)) (A .capacity)
       (delete-ruled (A .holds) table-ruled id (accepted-id A id tenant z))))
 
 pub next-rules : (S : State) (L : Ledger) → Agrees S L → Rules L (S .medium) → (c : Call) → Rules (enter L c .ledger) (next S c .medium)
@@ -113,20 +112,20 @@ unfolding after ledgerAfter
 run-rules [] S L A R = R
 run-rules (c ∷ calls) S L A R = run-rules calls (next S c) (enter L c .ledger) (step S L A c .agrees) (next-rules S L A R c)
 
-pub begin-rules : (capacity n : ℕ) → Rules (freshLedger capacity n) (begin capacity n .medium)
+pub begin-rules : (capacity salt n : ℕ) → Rules (freshLedger capacity salt n) (begin capacity salt n .medium)
 unfolding freshLedger
-begin-rules capacity n = each-none _
+begin-rules capacity salt n = each-none _
 
-pub live-rule : (capacity n : ℕ) → firstOf (startRows capacity) ≡ 0 → (calls : List Call) → LiveRule capacity n calls
+pub live-rule : (capacity salt n : ℕ) → firstOf (startRows capacity salt) ≡ 0 → (calls : List Call) → LiveRule capacity salt n calls
 unfolding live
-live-rule capacity n z calls =
-    let S = stateThen capacity n calls in
-    let L = ledgerThen capacity n calls in
-    let B = begin-agrees capacity n z in
-    let A : Agrees (stateThen capacity n calls) (ledgerThen capacity n calls) = run calls (begin capacity n) (freshLedger capacity n) B .agrees in
+live-rule capacity salt n z calls =
+    let S = stateThen capacity salt n calls in
+    let L = ledgerThen capacity salt n calls in
+    let B = begin-agrees capacity salt n z in
+    let A : Agrees (stateThen capacity salt n calls) (ledgerThen capacity salt n calls) = run calls (begin capacity salt n) (freshLedger capacity salt n) B .agrees in
     record {
       rule = λ newer older id value server e.
           let there = write-there (A .holds) newer older id value server e in
           rw (lt-ltb (usedBy older server) (usedOf (S .table) server) (omega (arith, A .used server there, used-write (L .events) newer older id value server e)))
-          (table-ruled A (run-rules calls (begin capacity n) (freshLedger capacity n) B (begin-rules capacity n)) newer older id value server e);
+          (table-ruled A (run-rules calls (begin capacity salt n) (freshLedger capacity salt n) B (begin-rules capacity salt n)) newer older id value server e);
     }

@@ -12,7 +12,6 @@ use borrow.Author.Tests.{le-ltb, ne-eqb}
 use Rattle.limits.specs.Limits.{contentRange}
 use Rattle.lists.specs.Below.{countBelow}
 use Rattle.lists.proofs.Below.{countBelow-cong}
-use Rattle.placement.specs.Rule.{readable}
 use Rattle.tenants.specs.Tenant.{tenantOf}
 use Rattle.tenants.proofs.Tenants.{own-id, own-in-range}
 use Rattle.medium.specs.Word.{tagOf, contentOf, valueWord}
@@ -29,7 +28,7 @@ use Rattle.search.specs.Opened.{lowest, opens}
 use Rattle.search.proofs.Searches.{opened-are}
 use Rattle.lookup.proofs.Passed.{lookup-asked}
 use Rattle.history.specs.Call.{lookup, compared}
-use Rattle.history.specs.Ledger.{Ledger, Version, usedBy, lastWriteOf, lookupRowsL, openedFrom, lastWriteReply, rowsOf, doneOf, enter}
+use Rattle.history.specs.Ledger.{Ledger, Version, usedBy, lastWriteOf, lookupRowsL, openedFrom, lastWriteReply, rowsOf, doneOf, enter, readsL}
 use Rattle.history.proofs.Events.{placeOf, last-came, came-placed, none-placed}
 use Rattle.history.proofs.Holds.{InEntry}
 use Rattle.history.proofs.Agree.{Agree, Step, settled, same-asked, same-reads, same-met}
@@ -43,9 +42,9 @@ module _ {t : Table} {m : List ℕ} {L : Ledger} (A : Agree t m L) (id : ℕ) wh
   same-opened : (from : ℕ) → countBelow (λ k. leb from k && reads t id k) (t .count) ≡ openedFrom L id from
   unfolding openedFrom
   same-opened from =
-      countBelow-cong (λ k. leb from k && reads t id k) (λ k. leb from k && readable (L .greatest) id k) (t .count)
+      countBelow-cong (λ k. leb from k && reads t id k) (λ k. leb from k && readsL L id k) (t .count)
       (λ k l. ap (λ (b : Bool). leb from k && b) (same-reads A id k l))
-      ∙ ap (countBelow (λ k. leb from k && readable (L .greatest) id k)) (A .count)
+      ∙ ap (countBelow (λ k. leb from k && readsL L id k)) (A .count)
 
   opened-number : length (searchFor t m id .opened) ≡ openedFrom L id (lowest (searchFor t m id .met))
   unfolding opens

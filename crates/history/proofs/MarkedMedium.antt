@@ -10,7 +10,6 @@ use native.Mathlib.Nat.{add-zero}
 use lib.ListN.{length}
 use Rattle.limits.specs.Limits.{contentRange}
 use Rattle.lists.specs.Below.{nth}
-use Rattle.placement.specs.declared.Fraction.{Fraction}
 use Rattle.medium.specs.Entry.{serverAt, entryAt, markAt, bears, live}
 use Rattle.medium.specs.Burn.{burnAll, marksOver, invalidations}
 use Rattle.medium.proofs.Places.{entry-in, entry-apart}
@@ -35,7 +34,7 @@ pub record Invalidated (capacity count : ℕ) (events : List Event) (m : List �
   pub others : (a k j : ℕ) → k < count → j < capacity → a ≢ id → bears capacity M a k j ≡ true → bears capacity N a k j ≡ true
   pub gone : (k j : ℕ) → k < count → j < capacity → p k ≡ true → bears capacity m id k j ≡ true → bears capacity N id k j ≡ true → ⊥
 
-module _ {capacity count : ℕ} {greatest : ℕ → Fraction} {events : List Event} {m : List ℕ} (H : Holds capacity count greatest events m)
+module _ {capacity count : ℕ} {rule : ℕ → ℕ → Bool} {events : List Event} {m : List ℕ} (H : Holds capacity count rule events m)
     (id : ℕ) (small : id < contentRange) (p : ℕ → Bool)
     (M : List ℕ) (long : length M ≡ length m)
     (old : (k j q : ℕ) → k < count → j < usedBy events k → q < 3 → nth M (entryAt capacity k j + q) ≡ nth m (entryAt capacity k j + q))

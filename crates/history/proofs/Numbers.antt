@@ -45,17 +45,19 @@ module _ (t : Table) (k : ℕ) (l : k < t .count) where
   record Has (left : Type 0) (u : Table) : Type 0 where
     there : k < u .count
     capacity : u .capacity ≡ t .capacity
+    salt : u .salt ≡ t .salt
     used : usedOf t k ≤ usedOf u k
     weight : left → weightOf u k ≡ weightOf t k
 
   itself : (left : Type 0) → Has left t
-  itself left = record { there = l; capacity = refl; used = omega arith; weight = λ _. refl }
+  itself left = record { there = l; capacity = refl; salt = refl; used = omega arith; weight = λ _. refl }
 
   server-added : (weight : ℕ) → Has (Unit {0}) (withServer t weight)
   unfolding withServer
   server-added weight = record {
     there = omega arith;
     capacity = refl;
+    salt = refl;
     used = omega (arith, getD-set-other (t .used) (t .count) k 0 0 (λ e. omega arith));
     weight = λ _. getD-set-other (t .weights) (t .count) k weight 0 (λ e. omega arith);
   }
@@ -65,6 +67,7 @@ module _ (t : Table) (k : ℕ) (l : k < t .count) where
   weight-changed server weight = record {
     there = l;
     capacity = refl;
+    salt = refl;
     used = omega arith;
     weight = λ d. getD-set-other (t .weights) server k weight 0 d;
   }
@@ -74,6 +77,7 @@ module _ (t : Table) (k : ℕ) (l : k < t .count) where
   entry-added server = record {
     there = l;
     capacity = refl;
+    salt = refl;
     used = set-more (t .used) server _ (omega arith) k;
     weight = λ _. refl;
   }
@@ -81,7 +85,7 @@ module _ (t : Table) (k : ℕ) (l : k < t .count) where
 -- one call, by the table that it leaves
 kept-by : (S : State) (c : Call) (k : ℕ) (l : k < S .table .count) (left : Type 0) → (weightLeft k (c ∷ []) ≡ true → left) → Has (S .table) k l left (next S c .table)
     → SameServer S (next S c) (c ∷ []) k
-kept-by S c k l left f h = record { there = h .there; capacity = h .capacity; used = h .used; weight = λ e. h .weight (f e) }
+kept-by S c k l left f h = record { there = h .there; capacity = h .capacity; salt = h .salt; used = h .used; weight = λ e. h .weight (f e) }
 
 next-same : (S : State) (c : Call) (k : ℕ) → k < S .table .count → SameServer S (next S c) (c ∷ []) k
 unfolding next weightLeft addServerTable reweightTable writeTable
@@ -111,27 +115,28 @@ left-both k (batch tenant ids) calls e = (refl, e)
 -- a list of calls, whatever the table and the medium hold
 pub servers-keep-their-number : (calls : List Call) (S : State) (k : ℕ) → k < S .table .count → SameServer S (after S calls) calls k
 unfolding after
-servers-keep-their-number [] S k l = record { there = l; capacity = refl; used = omega arith; weight = λ _. refl }
+servers-keep-their-number [] S k l = record { there = l; capacity = refl; salt = refl; used = omega arith; weight = λ _. refl }
 servers-keep-their-number (c ∷ calls) S k l =
     let a = next-same S c k l in
     let b = servers-keep-their-number calls (next S c) k (a .there) in
     record {
       there = b .there;
       capacity = b .capacity ∙ a .capacity;
+      salt = b .salt ∙ a .salt;
       used = omega (arith, a .used, b .used);
       weight = λ e. let h = left-both k c calls e in b .weight (h .1) ∙ a .weight (h .0);
     }
 
 -- and the server of an accepted add_server of a list
-pub server-numbered : (capacity n : ℕ) → firstOf (startRows capacity) ≡ 0 → (before : List Call) (weight : ℕ)
-    → let S = after (begin capacity n) before in
+pub server-numbered : (capacity salt n : ℕ) → firstOf (startRows capacity salt) ≡ 0 → (before : List Call) (weight : ℕ)
+    → let S = after (begin capacity salt n) before in
     reply S (addServer weight) .refusal ≡ 0 → Added S weight
 unfolding reply next addServerReply addServerTable
-server-numbered capacity n z before weight e =
-    let S = after (begin capacity n) before in
+server-numbered capacity salt n z before weight e =
+    let S = after (begin capacity salt n) before in
     let t = S .table in
     let rows = addServerRows t (S .medium) weight in
-    let A = run before (begin capacity n) (freshLedger capacity n) (begin-agrees capacity n z) .agrees in
+    let A = run before (begin capacity salt n) (freshLedger capacity salt n) (begin-agrees capacity salt n z) .agrees in
     let y : firstOf rows ≡ 0 = sym (reply-number rows _ refl) ∙ e in
     let w = withServer-is t weight (A .arrays) (addServer-accepted t (S .medium) weight y .few) in
     let table : addServerTable t (S .medium) weight ≡ withServer t weight = settle-yes rows _ t y in

@@ -26,7 +26,7 @@ use Rattle.replies.proofs.Refusals.{passed, settle-yes, settle-no}
 use Rattle.server_rows.specs.ServerRows.{reweightRows}
 use Rattle.servers.specs.Servers.{reweightReply, reweightTable}
 use Rattle.history.specs.Call.{reweight, compared}
-use Rattle.history.specs.Ledger.{Ledger, put, reweightRowsL, withWeightL, rowsOf, doneOf, enter}
+use Rattle.history.specs.Ledger.{Ledger, put, reweightRowsL, withWeightL, rowsOf, doneOf, enter, readsL}
 use Rattle.history.proofs.Holds.{Holds}
 use Rattle.history.proofs.Agree.{Agree, put-is, Step, settled}
 
@@ -49,6 +49,9 @@ module _ {t : Table} {m : List ℕ} {L : Ledger} (A : Agree t m L) (server weigh
     abbrev weights : ℕ → ℕ
     weights = put (L .weight) server weight
 
+    abbrev raised : ℕ → Fraction
+    raised k = raise (L .greatest k) (writeP weights k)
+
     changed : WeightChanged t server weight u
     changed = withWeight-is t server weight (A .arrays) (sound-facts t (A .isSound) .few) there
 
@@ -58,19 +61,19 @@ module _ {t : Table} {m : List ℕ} {L : Ledger} (A : Agree t m L) (server weigh
     new-weight : (k : ℕ) → k < t .count → weightOf u k ≡ weights k
     new-weight k l = put-is (L .weight) server weight (weightOf u) (changed .weightNew) k (λ n. changed .weightOld k n ∙ A .weights k l)
 
-    new-read : (k : ℕ) → k < t .count → readP u k ≡ raise (L .greatest k) (writeP weights k)
+    new-read : (k : ℕ) → k < t .count → readP u k ≡ raised k
     new-read k l = changed .raised k l ∙ ap₂ raise (A .readPs k l) (writeP-cong (weightOf u) weights k (λ i a. new-weight i (omega arith)))
 
     -- what was readable still is
-    still-readable : (id k : ℕ) → k < t .count → readable (L .greatest) id k ≡ true → readable (λ k. raise (L .greatest k) (writeP weights k)) id k ≡ true
+    still-readable : (id k : ℕ) → k < t .count → readsL L id k ≡ true → readable raised (L .salt) id k ≡ true
     unfolding readable takes
     still-readable id k l e =
         let positive = sound-facts u new-sound .server k (omega (arith, changed .count)) .positive in
-        exceeds-grows modulus (L .greatest k) (raise (L .greatest k) (writeP weights k)) (drawOf id k)
+        exceeds-grows modulus (L .greatest k) (raised k) (drawOf (L .salt) id k)
         (omega (arith, positive, ap (λ (f : Fraction). f .den) (new-read k l)))
         (raise-is (L .greatest k) (writeP weights k) .least .0) e
 
-    holds : Holds (t .capacity) (t .count) (λ k. raise (L .greatest k) (writeP weights k)) (L .events) m
+    holds : Holds (t .capacity) (t .count) (readable raised (L .salt)) (L .events) m
     holds =
         let H = A .holds in
         record {
@@ -90,6 +93,7 @@ module _ {t : Table} {m : List ℕ} {L : Ledger} (A : Agree t m L) (server weigh
       isSound = new-sound;
       arrays = withWeight-arrays t server weight (A .arrays);
       capacity = A .capacity;
+      salt = A .salt;
       count = A .count;
       weights = new-weight;
       used = A .used;

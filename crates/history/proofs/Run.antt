@@ -2,16 +2,15 @@
 -- Assumes nothing.
 use Prim.Native.Nat.{ℕ}
 use mathlib.Core.Path.{_≡_, refl, ap₂}
-use mathlib.Core.Bool.{true, not, _&&_}
+use mathlib.Core.Bool.{true, not}
 use mathlib.Core.List.{List, [], _∷_, map}
 use native.Mathlib.Omega.{arith}
 use lib.ListN.{length-replicate, getD-replicate}
-use lib.Dec.{leb}
-use borrow.Author.Tests.{leb-true, not-false}
-use Rattle.lists.proofs.Tests.{and-l, and-r}
+use borrow.Author.Tests.{not-false}
 use Rattle.medium.specs.Word.{blank}
 use Rattle.medium.proofs.Places.{server-zero}
 use Rattle.table.specs.Parts.{empty}
+use Rattle.table.specs.Sound.{inRange}
 use Rattle.table.proofs.Soundness.{empty-arrays, empty-sound}
 use Rattle.replies.specs.Refusal.{firstOf}
 use Rattle.replies.proofs.Refusals.{passed, settle-yes}
@@ -33,20 +32,18 @@ use Rattle.history.proofs.Batches.{batch-step}
 abbrev pub Agrees : State → Ledger → Type 0
 Agrees S L = Agree (S .table) (S .medium) L
 
-start-in-range : (capacity : ℕ) → firstOf (startRows capacity) ≡ 0 → leb 1 capacity && leb capacity 65536 ≡ true
+start-in-range : (capacity salt : ℕ) → firstOf (startRows capacity salt) ≡ 0 → inRange capacity salt ≡ true
 unfolding startRows
-start-in-range capacity z = not-false _ (passed 1 (not (leb 1 capacity && leb capacity 65536)) [] z .0)
+start-in-range capacity salt z = not-false _ (passed 1 (not (inRange capacity salt)) [] z .0)
 
-pub begin-agrees : (capacity n : ℕ) → firstOf (startRows capacity) ≡ 0 → Agrees (begin capacity n) (freshLedger capacity n)
+pub begin-agrees : (capacity salt n : ℕ) → firstOf (startRows capacity salt) ≡ 0 → Agrees (begin capacity salt n) (freshLedger capacity salt n)
 unfolding begin startTable freshLedger usedBy placeOf TopAt
-begin-agrees capacity n z =
-    let s = start-in-range capacity z in
-    let low = leb-true 1 capacity (and-l (leb 1 capacity) (leb capacity 65536) s) in
-    let high = leb-true capacity 65536 (and-r (leb 1 capacity) (leb capacity 65536) s) in
-    rw (settle-yes (startRows capacity) (empty capacity) (empty 0) z) (record {
-      isSound = empty-sound capacity low high;
-      arrays = empty-arrays capacity;
+begin-agrees capacity salt n z =
+    rw (settle-yes (startRows capacity salt) (empty capacity salt) (empty 0 0) z) (record {
+      isSound = empty-sound capacity salt (start-in-range capacity salt z);
+      arrays = empty-arrays capacity salt;
       capacity = refl;
+      salt = refl;
       count = refl;
       weights = λ k l. absurd (omega arith);
       used = λ k l. absurd (omega arith);

@@ -86,27 +86,27 @@ nothing : (o : Option Version) → ((x : Version) → o ≡ some x → ⊥) → 
 nothing none f = refl
 nothing (some x) f = absurd (f x refl)
 
-pub demand3 : (capacity n : ℕ) → firstOf (startRows capacity) ≡ 0 → (calls : List Call) → Demand3 capacity n calls
+pub demand3 : (capacity salt n : ℕ) → firstOf (startRows capacity salt) ≡ 0 → (calls : List Call) → Demand3 capacity salt n calls
 unfolding compared
-demand3 capacity n z calls =
-    let S = stateThen capacity n calls in
-    let L = ledgerThen capacity n calls in
-    let r = run calls (begin capacity n) (freshLedger capacity n) (begin-agrees capacity n z) in
-    let A : Agrees (stateThen capacity n calls) (ledgerThen capacity n calls) = r .agrees in
+demand3 capacity salt n z calls =
+    let S = stateThen capacity salt n calls in
+    let L = ledgerThen capacity salt n calls in
+    let r = run calls (begin capacity salt n) (freshLedger capacity salt n) (begin-agrees capacity salt n z) in
+    let A : Agrees (stateThen capacity salt n calls) (ledgerThen capacity salt n calls) = r .agrees in
     record {
       alike = r .alike;
-      batches = λ before later tenant ids e. same-batch (run before (begin capacity n) (freshLedger capacity n) (begin-agrees capacity n z) .agrees) tenant ids;
+      batches = λ before later tenant ids e. same-batch (run before (begin capacity salt n) (freshLedger capacity salt n) (begin-agrees capacity salt n z) .agrees) tenant ids;
       finds = λ id value server w. finds S L A id (record { value = value; server = server }) (last-written (L .events) id value server w);
       absent = λ id s l. (
         λ e value server w. not-both (absent S L A id s l .0 e) (last-written (L .events) id value server w),
         λ f. absent S L A id s l .1 (nothing (lastWriteOf (L .events) id) (λ x e. f (x .value) (x .server) (last-came (L .events) id x e))),
       );
       unaltered = λ before later e a f.
-          ap (λ (l : List Call). nth (stateThen capacity n l .medium) a) (sym e)
-          ∙ ap (λ (T : State). nth (T .medium) a) (after-append before later (begin capacity n))
-          ∙ after-once later (stateThen capacity n before) a f;
+          ap (λ (l : List Call). nth (stateThen capacity salt n l .medium) a) (sym e)
+          ∙ ap (λ (T : State). nth (T .medium) a) (after-append before later (begin capacity salt n))
+          ∙ after-once later (stateThen capacity salt n before) a f;
       onMedium = onMedium S L A;
       own = own S L A;
       live = live-writes S L A;
-      never = λ before later c e. never (stateThen capacity n before) (ledgerThen capacity n before) (run before (begin capacity n) (freshLedger capacity n) (begin-agrees capacity n z) .agrees) c;
+      never = λ before later c e. never (stateThen capacity salt n before) (ledgerThen capacity salt n before) (run before (begin capacity salt n) (freshLedger capacity salt n) (begin-agrees capacity salt n z) .agrees) c;
     }

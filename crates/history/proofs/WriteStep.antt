@@ -11,7 +11,6 @@ use Rattle.lists.proofs.Tests.{byBool}
 use Rattle.draws.specs.Draw.{modulus, drawOf}
 use Rattle.placement.specs.Rule.{writeP, takes, readable}
 use Rattle.placement.proofs.Fractions.{exceeds-grows}
-use Rattle.placement.proofs.Rules.{writeServer-is}
 use Rattle.medium.specs.Word.{replaced}
 use Rattle.medium.specs.Entry.{entryAt, blankRun}
 use Rattle.medium.specs.Burn.{burnAll, invalidations}
@@ -28,9 +27,9 @@ use Rattle.replies.proofs.Refusals.{more-same, settle-yes, settle-no}
 use Rattle.checks.proofs.Passed.{asked-numbered, asked-tests}
 use Rattle.planning.specs.WriteRows.{target, entryRows, writeRows}
 use Rattle.writing.specs.Writing.{writeMarks, writeBurns, writeReply, writeTable, writeMedium}
-use Rattle.planning.proofs.Passed.{write-accepted}
+use Rattle.planning.proofs.Passed.{target-is, write-accepted}
 use Rattle.history.specs.Call.{write, compared}
-use Rattle.history.specs.Ledger.{wrote, Ledger, told, usedBy, withEvent, writeRowsL, rowsOf, doneOf, enter}
+use Rattle.history.specs.Ledger.{wrote, Ledger, told, usedBy, withEvent, writeRowsL, rowsOf, doneOf, enter, readsL}
 use Rattle.history.proofs.Events.{used-self, used-other}
 use Rattle.history.proofs.WrittenMedium.{withWords, afterWrite, Accepted, write-holds}
 use Rattle.history.proofs.Agree.{Agree, Step, settled, same-asked, ledger-numbered, same-target, same-reads, same-marks}
@@ -40,8 +39,7 @@ module _ {t : Table} {m : List ℕ} {L : Ledger} (A : Agree t m L) (tenant id va
   server = target t id
 
   target-there : (t .count ≡ 0 → ⊥) → server < t .count
-  unfolding target
-  target-there n = writeServer-is (weightOf t) (t .count) id (omega (arith, n)) .below
+  target-there n = target-is t id (omega (arith, n)) .below
 
   -- room where the server is not full
   not-full : server < t .count → (usedOf t server ≡ t .capacity → ⊥) → usedBy (L .events) server < t .capacity
@@ -62,15 +60,15 @@ module _ {t : Table} {m : List ℕ} {L : Ledger} (A : Agree t m L) (tenant id va
       (λ e. rw (e, sym e6 ∙ e, blank-entry l (not-full l (eqb-false (usedOf t server) (t .capacity) e)))))
 
   -- the write server is readable: its ReadP is at least its WriteP
-  target-read : server < t .count → readable (L .greatest) id server ≡ true
-  unfolding readable takes target
+  target-read : server < t .count → readsL L id server ≡ true
+  unfolding readable takes
   target-read l =
       let s = sound-facts t (A .isSound) .server server l in
       sym (same-reads A id server l)
-      ∙ exceeds-grows modulus (writeP (weightOf t) server) (readP t server) (drawOf id server) (s .positive) (s .reads)
-      (writeServer-is (weightOf t) (t .count) id (omega arith) .takesIt)
+      ∙ exceeds-grows modulus (writeP (weightOf t) server) (readP t server) (drawOf (t .salt) id server) (s .positive) (s .reads)
+      (target-is t id (omega arith) .takesIt)
 
-  pub accepted : firstOf (writeRows t m tenant id value) ≡ 0 → Accepted (t .capacity) (t .count) (L .greatest) (L .events) id value server
+  pub accepted : firstOf (writeRows t m tenant id value) ≡ 0 → Accepted (t .capacity) (t .count) (readsL L) (L .events) id value server
   accepted z =
       let a = write-accepted t m tenant id value z in
       record {
@@ -82,14 +80,14 @@ module _ {t : Table} {m : List ℕ} {L : Ledger} (A : Agree t m L) (tenant id va
       }
 
   -- the medium that an accepted write leaves
-  pub write-medium : server < t .count → burnAll m (writeBurns t m id value) ≡ afterWrite (t .capacity) (t .count) (L .greatest) (L .events) m id value server
+  pub write-medium : server < t .count → burnAll m (writeBurns t m id value) ≡ afterWrite (t .capacity) (t .count) (readsL L) (L .events) m id value server
   unfolding writeBurns writeMarks burnAll
   write-medium l = ap₂
       (λ (j : ℕ) (marks : List ℕ). burnAll (withWords (t .capacity) m id value server j) (invalidations replaced marks))
       (A .used server l)
-      (same-marks A id (λ k. leb server k && reads t id k) (λ k. leb server k && readable (L .greatest) id k) (λ k i. ap (λ (b : Bool). leb server k && b) (same-reads A id k i)))
+      (same-marks A id (λ k. leb server k && reads t id k) (λ k. leb server k && readsL L id k) (λ k i. ap (λ (b : Bool). leb server k && b) (same-reads A id k i)))
 
-  module _ (W : Accepted (t .capacity) (t .count) (L .greatest) (L .events) id value server) where
+  module _ (W : Accepted (t .capacity) (t .count) (readsL L) (L .events) id value server) where
     added : EntryAdded t server (withEntry t server)
     added = withEntry-is t server (A .arrays) (sound-facts t (A .isSound) .few) (W .there)
 
@@ -104,6 +102,7 @@ module _ {t : Table} {m : List ℕ} {L : Ledger} (A : Agree t m L) (tenant id va
       isSound = withEntry-sound t server (A .arrays) (A .isSound) (W .there) (omega (arith, W .room, A .used server (W .there)));
       arrays = withEntry-arrays t server (A .arrays);
       capacity = A .capacity;
+      salt = A .salt;
       count = A .count;
       weights = A .weights;
       used = new-used;

@@ -3,7 +3,7 @@
 use Prim.Native.Nat.{ℕ, _+_, _≤_, _<_}
 use mathlib.Core.Path.{_≡_, refl, sym, ap, ap₂, _∙_, subst}
 use mathlib.Core.Logic.{_≢_}
-use mathlib.Core.Bool.{true, _&&_, not}
+use mathlib.Core.Bool.{Bool, true, _&&_, not}
 use mathlib.Core.List.{List, _∷_}
 use native.Mathlib.Omega.{arith}
 use native.Mathlib.Nat.{add-zero}
@@ -14,8 +14,6 @@ use borrow.Author.Tests.{leb-false, eqb-true, eqb-false, eq-eqb}
 use Rattle.limits.specs.Limits.{contentRange}
 use Rattle.lists.specs.Below.{nth}
 use Rattle.lists.proofs.Tests.{byBool, true-not-false, and-l, and-r, and-i, iff-eq, except}
-use Rattle.placement.specs.declared.Fraction.{Fraction}
-use Rattle.placement.specs.Rule.{readable}
 use Rattle.medium.specs.Word.{idWord, valueWord, replaced, blank}
 use Rattle.medium.specs.Entry.{entryAt, valueAt, markAt, bears}
 use Rattle.medium.specs.Burn.{burnAll, marksOver, invalidations}
@@ -32,21 +30,21 @@ abbrev pub withWords : ℕ → List ℕ → ℕ → ℕ → ℕ → ℕ → List
 withWords capacity m id value server j = set (set m (valueAt capacity server j) (valueWord value)) (entryAt capacity server j) (idWord id)
 
 -- those of the server's next entry, and then the id's earlier entries invalidated, on readable servers at or above this one
-abbrev pub afterWrite : ℕ → ℕ → (ℕ → Fraction) → List Event → List ℕ → ℕ → ℕ → ℕ → List ℕ
-afterWrite capacity count greatest events m id value server =
+abbrev pub afterWrite : ℕ → ℕ → (ℕ → ℕ → Bool) → List Event → List ℕ → ℕ → ℕ → ℕ → List ℕ
+afterWrite capacity count rule events m id value server =
     burnAll (withWords capacity m id value server (usedBy events server))
-    (invalidations replaced (marksOver capacity (usedBy events) m id (λ k. leb server k && readable greatest id k) count))
+    (invalidations replaced (marksOver capacity (usedBy events) m id (λ k. leb server k && rule id k) count))
 
 -- what an accepted write has passed, and that its server is readable for the id
-pub record Accepted (capacity count : ℕ) (greatest : ℕ → Fraction) (events : List Event) (id value server : ℕ) : Type 0 where
+pub record Accepted (capacity count : ℕ) (rule : ℕ → ℕ → Bool) (events : List Event) (id value server : ℕ) : Type 0 where
   pub small : id < contentRange
   pub smallValue : value < contentRange
   pub there : server < count
   pub room : usedBy events server < capacity
-  pub reads : readable greatest id server ≡ true
+  pub reads : rule id server ≡ true
 
-module _ {capacity count : ℕ} {greatest : ℕ → Fraction} {events : List Event} {m : List ℕ} (H : Holds capacity count greatest events m)
-    {id value server : ℕ} (W : Accepted capacity count greatest events id value server) where
+module _ {capacity count : ℕ} {rule : ℕ → ℕ → Bool} {events : List Event} {m : List ℕ} (H : Holds capacity count rule events m)
+    {id value server : ℕ} (W : Accepted capacity count rule events id value server) where
   abbrev entry : ℕ
   entry = usedBy events server
 
@@ -57,7 +55,7 @@ module _ {capacity count : ℕ} {greatest : ℕ → Fraction} {events : List Eve
   M = withWords capacity m id value server entry
 
   abbrev N : List ℕ
-  N = afterWrite capacity count greatest events m id value server
+  N = afterWrite capacity count rule events m id value server
 
   inside : (q : ℕ) → q < 3 → address + q < length m
   inside q b = omega (arith, H .long, entry-in capacity count server entry q (W .there) (W .room) b)
@@ -97,8 +95,8 @@ module _ {capacity count : ℕ} {greatest : ℕ → Fraction} {events : List Eve
   old-entry : (k j : ℕ) → j < usedBy events k → k ≡ server → j ≡ entry → ⊥
   old-entry k j u x y = omega (arith, ap (usedBy events) x)
 
-  done : Invalidated capacity count events m id (λ k. leb server k && readable greatest id k) M N
-  done = invalidated H id (W .small) (λ k. leb server k && readable greatest id k) M
+  done : Invalidated capacity count events m id (λ k. leb server k && rule id k) M N
+  done = invalidated H id (W .small) (λ k. leb server k && rule id k) M
       (length-set (set m (address + 1) (valueWord value)) address (idWord id) ∙ length-set m (address + 1) (valueWord value))
       (λ k j q l u b. off-entry k j q (omega (arith, H .fits k)) b (old-entry k j u))
       replaced (omega arith)
@@ -143,10 +141,10 @@ module _ {capacity count : ℕ} {greatest : ℕ → Fraction} {events : List Eve
       fresh x y (sym (bears-id capacity M a k j (done .less a k j i b)) ∙ ap₂ (λ (k j : ℕ). nth M (entryAt capacity k j)) x y ∙ id-there))
       (λ d. before (sym (off-bears a k j i (λ x y. true-not-false (and-i (eqb k server) (eqb j entry) (eq-eqb k server x) (eq-eqb j entry y)) d)) ∙ done .less a k j i b))
 
-  opens : (a k j : ℕ) → a < contentRange → k < count → j < capacity → bears capacity N a k j ≡ true → readable greatest a k ≡ true
+  opens : (a k j : ℕ) → a < contentRange → k < count → j < capacity → bears capacity N a k j ≡ true → rule a k ≡ true
   opens a k j n l i b = go (from a k j i b)
     where
-      go : From a k j → readable greatest a k ≡ true
+      go : From a k j → rule a k ≡ true
       go (fresh x y z) = rw (x, z) (W .reads)
       go (before o) = H .opens a k j n l i o
 
@@ -180,7 +178,7 @@ module _ {capacity count : ℕ} {greatest : ℕ → Fraction} {events : List Eve
     valueSmall = W .smallValue;
   }
 
-  pub write-holds : Holds capacity count greatest (wrote id value server ∷ events) N
+  pub write-holds : Holds capacity count rule (wrote id value server ∷ events) N
   unfolding placeOf TopAt
   write-holds = record {
     long = omega (arith, H .long, done .long);

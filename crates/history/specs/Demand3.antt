@@ -39,13 +39,13 @@ pub record OnMedium (S : State) (L : Ledger) (id value server j : ℕ) : Type 0 
   pub idThere : nth (S .medium) (entryAt (L .capacity) server j) ≡ idWord id
   pub valueThere : nth (S .medium) (valueAt (L .capacity) server j) ≡ valueWord value
 
-module _ (capacity n : ℕ) (calls : List Call) where
+module _ (capacity salt n : ℕ) (calls : List Call) where
   -- state and ledger after the list, its events, and what a lookup by the id's own tenant then replies
   abbrev pub stateThen : State
-  stateThen = after (begin capacity n) calls
+  stateThen = after (begin capacity salt n) calls
 
   abbrev pub ledgerThen : Ledger
-  ledgerThen = ledgerAfter (freshLedger capacity n) calls
+  ledgerThen = ledgerAfter (freshLedger capacity salt n) calls
 
   abbrev pub eventsThen : List Event
   eventsThen = ledgerThen .events
@@ -53,22 +53,22 @@ module _ (capacity n : ℕ) (calls : List Call) where
   abbrev pub lookupThen : ℕ → Reply
   lookupThen id = lookupReply (stateThen .table) (stateThen .medium) (tenantOf id) id
 
-module _ (capacity n : ℕ) (calls : List Call) where
+module _ (capacity salt n : ℕ) (calls : List Call) where
   abbrev S : State
-  S = stateThen capacity n calls
+  S = stateThen capacity salt n calls
 
   abbrev L : Ledger
-  L = ledgerThen capacity n calls
+  L = ledgerThen capacity salt n calls
 
   abbrev lookedUp : ℕ → Reply
-  lookedUp id = lookupThen capacity n calls id
+  lookedUp id = lookupThen capacity salt n calls id
 
   pub record Demand3 : Type 0 where
     -- each call answers with the refusal number, server, value and opened count that the ledger gives
-    pub alike : map compared (replies (begin capacity n) calls) ≡ ledgerReplies (freshLedger capacity n) calls
+    pub alike : map compared (replies (begin capacity salt n) calls) ≡ ledgerReplies (freshLedger capacity salt n) calls
     -- and each batch of lookups with the ledger's whole answer
     pub batches : (before later : List Call) (tenant : ℕ) (ids : List ℕ) → before ++ (batch tenant ids ∷ later) ≡ calls
-        → batchReply (stateThen capacity n before .table) (stateThen capacity n before .medium) tenant ids ≡ batchL (ledgerThen capacity n before) tenant ids
+        → batchReply (stateThen capacity salt n before .table) (stateThen capacity salt n before .medium) tenant ids ≡ batchL (ledgerThen capacity salt n before) tenant ids
     -- a lookup by the id's own tenant finds the value of the last accepted write of the id with no accepted delete afterwards
     pub finds : (id value server : ℕ) → LastWrite (L .events) id value server
         → (lookedUp id .refusal ≡ 0) × (lookedUp id .value ≡ value)
@@ -77,8 +77,8 @@ module _ (capacity n : ℕ) (calls : List Call) where
         → (lookedUp id .refusal ≡ 8) ↔ ((value server : ℕ) → LastWrite (L .events) id value server → ⊥)
     -- every word that is not blank after some first part of the list stands unaltered after all of it
     pub unaltered : (before later : List Call) → before ++ later ≡ calls → (a : ℕ)
-        → nth (after (begin capacity n) before .medium) a ≢ blank
-        → nth (S .medium) a ≡ nth (after (begin capacity n) before .medium) a
+        → nth (after (begin capacity salt n) before .medium) a ≢ blank
+        → nth (S .medium) a ≡ nth (after (begin capacity salt n) before .medium) a
     -- id and value of each accepted write stand on the server that the ledger gave it, in the entry that was then its used
     pub onMedium : (newer older : List Event) (id value server : ℕ)
         → L .events ≡ newer ++ (wrote id value server ∷ older)
@@ -94,5 +94,5 @@ module _ (capacity n : ℕ) (calls : List Call) where
     pub live : liveEntries S ≤ writes (L .events)
     -- 1, 7 and 10 never come, as the refusal of a call or of an id of a batch
     pub never : (before later : List Call) (c : Call) → before ++ (c ∷ later) ≡ calls → (i : ℕ)
-        → let number = nth (refusals (stateThen capacity n before) c) i in
+        → let number = nth (refusals (stateThen capacity salt n before) c) i in
         (number ≢ 1) × (number ≢ 7) × (number ≢ 10)

@@ -38,10 +38,10 @@ expected =
     ∷ refused 8 2
     ∷ []
 
--- a table of 4 entries a server over n blank words; proofs/Example shows it for every n of 36 or more, the words of three servers
+-- a table of 4 entries a server and salt 0 over n blank words; proofs/Example shows it for every n of 36 or more, the words of three servers
 pub record Example (n : ℕ) : Type 0 where
-  pub machine : replies (begin 4 n) calls ≡ expected
-  pub ledger : ledgerReplies (freshLedger 4 n) calls ≡ map compared expected
-  pub word24 : nth (after (begin 4 n) calls .medium) 24 ≡ 626627286
-  pub word25 : nth (after (begin 4 n) calls .medium) 25 ≡ 1073742324
-  pub word26 : nth (after (begin 4 n) calls .medium) 26 ≡ 2147483649
+  pub machine : replies (begin 4 0 n) calls ≡ expected
+  pub ledger : ledgerReplies (freshLedger 4 0 n) calls ≡ map compared expected
+  pub word24 : nth (after (begin 4 0 n) calls .medium) 24 ≡ 626627286
+  pub word25 : nth (after (begin 4 0 n) calls .medium) 25 ≡ 1073742324
+  pub word26 : nth (after (begin 4 0 n) calls .medium) 26 ≡ 2147483649

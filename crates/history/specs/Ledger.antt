@@ -1,5 +1,5 @@
--- The plain ledger (document 01, "The plain ledger"; document 02, item 2). It is fed the capacity, the medium's length and the
--- calls' arguments, and nothing from table or medium; of the archive it shares the published rule, which of two fractions is kept
+-- The plain ledger (document 01, "The plain ledger"; document 02, items 2 and 4). It is fed the capacity, the salt, the medium's
+-- length and the calls' arguments, and nothing from table or medium; of the archive it shares the published rule, which of two fractions is kept
 -- (`raise`), whose an id is, and how rows of refusals and the parts of a batch are put together.
 use Prim.Native.Nat.{ℕ, suc, _+_, _-_, _*_}
 use mathlib.Core.Bool.{Bool, true, false, cond, not, _&&_, _||_}
@@ -23,10 +23,11 @@ pub data Event : Type 0 where
   wrote : ℕ → ℕ → ℕ → Event
   removed : ℕ → Event
 
--- the medium's length, the number of servers, their weights, for each the greatest WriteP so far, and the events, the
+-- the capacity, the salt, the medium's length, the number of servers, their weights, for each the greatest WriteP so far, and the events, the
 -- newest first
 pub record Ledger : Type 0 where
   pub capacity : ℕ
+  pub salt : ℕ
   pub words : ℕ
   pub servers : ℕ
   pub weight : ℕ → ℕ
@@ -34,9 +35,10 @@ pub record Ledger : Type 0 where
   pub events : List Event
 
 -- a ledger that has no server, write or delete yet
-unfoldable pub freshLedger : ℕ → ℕ → Ledger
-freshLedger capacity words = record {
+unfoldable pub freshLedger : ℕ → ℕ → ℕ → Ledger
+freshLedger capacity salt words = record {
   capacity = capacity;
+  salt = salt;
   words = words;
   servers = 0;
   weight = λ k. 0;
@@ -110,6 +112,7 @@ withServerL L weight =
     let weights = put (L .weight) (L .servers) weight in
     record {
       capacity = L .capacity;
+      salt = L .salt;
       words = L .words;
       servers = suc (L .servers);
       weight = weights;
@@ -131,6 +134,7 @@ withWeightL L server weight =
     let weights = put (L .weight) server weight in
     record {
       capacity = L .capacity;
+      salt = L .salt;
       words = L .words;
       servers = L .servers;
       weight = weights;
@@ -154,6 +158,7 @@ askedRowsL L tenant id outside =
 unfoldable pub withEvent : Ledger → Event → Ledger
 withEvent L event = record {
   capacity = L .capacity;
+  salt = L .salt;
   words = L .words;
   servers = L .servers;
   weight = L .weight;
@@ -164,7 +169,7 @@ withEvent L event = record {
 -- write: its server is the write rule's pick
 
 unfoldable pub targetL : Ledger → ℕ → ℕ
-targetL L id = writeServer (L .weight) (L .servers) id
+targetL L id = writeServer (L .weight) (L .servers) (L .salt) id
 
 unfoldable pub writeRowsL : Ledger → ℕ → ℕ → ℕ → List Row
 writeRowsL L tenant id value =
@@ -178,6 +183,10 @@ deleteRowsL L tenant id =
     askedRowsL L tenant id false
     ++ (8 when not (isWritten (lastWriteOf (L .events) id)) ∷ [])
 
+-- server k is readable for an id: its greatest WriteP exceeds its draw
+abbrev pub readsL : Ledger → ℕ → ℕ → Bool
+readsL L id k = readable (L .greatest) (L .salt) id k
+
 -- lookup: the value of the id's last write, or 8; the servers from that write's upward whose greatest WriteP exceeds their
 -- draw, or all such servers
 
@@ -185,7 +194,7 @@ unfoldable pub lookupRowsL : Ledger → ℕ → ℕ → List Row
 lookupRowsL L tenant id = askedRowsL L tenant id false
 
 unfoldable pub openedFrom : Ledger → ℕ → ℕ → ℕ
-openedFrom L id from = countBelow (λ k. leb from k && readable (L .greatest) id k) (L .servers)
+openedFrom L id from = countBelow (λ k. leb from k && readsL L id k) (L .servers)
 
 unfoldable pub lastWriteReply : Ledger → ℕ → Option Version → Compared
 lastWriteReply L id none = told 8 0 0 (openedFrom L id 0)
@@ -203,7 +212,7 @@ lowestL none = 0
 lowestL (some x) = x .server
 
 unfoldable pub opensL : Ledger → ℕ → ℕ → ℕ → Bool
-opensL L tenant id k = settle (lookupRowsL L tenant id) (leb (lowestL (lastWriteOf (L .events) id)) k && readable (L .greatest) id k) false
+opensL L tenant id k = settle (lookupRowsL L tenant id) (leb (lowestL (lastWriteOf (L .events) id)) k && readsL L id k) false
 
 unfoldable pub openedAtL : Ledger → ℕ → List ℕ → ℕ → ℕ → Bool
 openedAtL L tenant ids i k = opensL L tenant (nth ids i) k

@@ -22,7 +22,7 @@ abbrev pub liveIn : State → ℕ → ℕ → ℕ → Bool
 liveIn S id k j = live (S .table .capacity) (usedOf (S .table) k) (S .medium) id k j
 
 -- after the list each accepted write's entry is live for its id exactly when it stays so by the later events
-pub record LiveRule (capacity n : ℕ) (calls : List Call) : Type 0 where
+pub record LiveRule (capacity salt n : ℕ) (calls : List Call) : Type 0 where
   pub rule : (newer older : List Event) (id value server : ℕ)
-      → eventsThen capacity n calls ≡ newer ++ (wrote id value server ∷ older)
-      → liveIn (stateThen capacity n calls) id server (usedBy older server) ≡ staysLive id server newer
+      → eventsThen capacity salt n calls ≡ newer ++ (wrote id value server ∷ older)
+      → liveIn (stateThen capacity salt n calls) id server (usedBy older server) ≡ staysLive id server newer

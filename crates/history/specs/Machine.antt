@@ -69,8 +69,8 @@ replies S [] = []
 replies S (c ∷ cs) = reply S c ∷ replies (next S c) cs
 
 -- a started table over n blank words
-unfoldable pub begin : ℕ → ℕ → State
-begin capacity n = record { table = startTable capacity; medium = replicate n blank }
+unfoldable pub begin : ℕ → ℕ → ℕ → State
+begin capacity salt n = record { table = startTable capacity salt; medium = replicate n blank }
 
 -- the id word of entry j of server k, and whether the entry is live for it: it can be live for no other id
 abbrev pub idAt : State → ℕ → ℕ → ℕ

@@ -18,11 +18,12 @@ weightLeft k (delete tenant id ∷ calls) = weightLeft k calls
 weightLeft k (lookup tenant id ∷ calls) = weightLeft k calls
 weightLeft k (batch tenant ids ∷ calls) = weightLeft k calls
 
--- server k of a state is server k of a later one: it is there, its words stand where they stood, its used has not fallen, and
--- its weight is the one that it had unless a call was a reweight of it
+-- server k of a state is server k of a later one: it is there, its words stand where they stood, ids draw on it as they drew, its
+-- used has not fallen, and its weight is the one that it had unless a call was a reweight of it
 pub record SameServer (S later : State) (calls : List Call) (k : ℕ) : Type 0 where
   pub there : k < later .table .count
   pub capacity : later .table .capacity ≡ S .table .capacity
+  pub salt : later .table .salt ≡ S .table .salt
   pub used : usedOf (S .table) k ≤ usedOf (later .table) k
   pub weight : weightLeft k calls ≡ true → weightOf (later .table) k ≡ weightOf (S .table) k
 

@@ -34,6 +34,7 @@ pub fn invalidate<'a>(
         ≡ burnAll (now (medium .entry)) (invalidations content (marksFrom (tableOf shape (columns .entry)) (now (medium .entry)) id from)) ⌝ }
 {
     let capacity = shape.capacity;
+    let salt = shape.salt;
     let count = shape.count;
     let used = columns[1];
     let numerators = columns[2];
@@ -47,7 +48,7 @@ pub fn invalidate<'a>(
             num: numerators[k],
             den: denominators[k],
         };
-        if placement::takes(read, steps, id, k) {
+        if placement::takes(read, steps, salt, id, k) {
             n += medium::invalidate_server(medium, entries, used[k] as usize, id, k, content);
         }
     }

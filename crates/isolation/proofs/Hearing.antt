@@ -12,7 +12,6 @@ use Rattle.lists.specs.Below.{nth, countBelow}
 use Rattle.lists.proofs.Tests.{byBool, true-not-false}
 use Rattle.lists.proofs.Below.{countBelow-cong}
 use Rattle.tenants.specs.Tenant.{tenantOf}
-use Rattle.placement.specs.Rule.{readable}
 use Rattle.medium.specs.Burn.{marksOver}
 use Rattle.table.specs.Parts.{usedOf, reads}
 use Rattle.replies.specs.Refusal.{Row, firstOf, settle}
@@ -29,7 +28,7 @@ use Rattle.servers.specs.Servers.{addServerReply, reweightReply}
 use Rattle.batch_answer.proofs.Orders.{batch-cong}
 use Rattle.history.specs.Call.{Call, addServer, reweight, write, delete, lookup, batch, Compared, compared}
 use Rattle.history.specs.Machine.{State, reply}
-use Rattle.history.specs.Ledger.{Ledger, Version, Entered, enterBy, targetL, lookupRowsL, lookupL, lowestL, opensL, openedAtL, batchRowsL, batchL, rowsOf, doneOf, enter}
+use Rattle.history.specs.Ledger.{Ledger, Version, Entered, enterBy, targetL, lookupRowsL, lookupL, lowestL, opensL, openedAtL, batchRowsL, batchL, rowsOf, doneOf, enter, readsL}
 use Rattle.history.proofs.Agree.{same-target, same-reads, same-marks}
 use Rattle.history.proofs.Batches.{same-batch}
 use Rattle.history.proofs.Run.{Agrees, step}
@@ -64,7 +63,7 @@ module _ (tenant : ℕ) (S : State) (L : Ledger) (A : Agrees S L) (R : Rules L (
       → length (marksOver (S .table .capacity) (usedOf (S .table)) (S .medium) id (λ k. leb from k && reads (S .table) id k) (S .table .count)) ≡ liveFrom K id fromL
   unfolding liveFrom trimmed
   marks-number id own from fromL e =
-      let p : (ℕ → Bool) = λ k. leb fromL k && readable (L .greatest) id k in
+      let p : (ℕ → Bool) = λ k. leb fromL k && readsL L id k in
       ap length (same-marks A id _ p (λ k l. ap₂ (λ (j : ℕ) (b : Bool). leb j k && b) e (same-reads A id k l)))
       ∙ length-over (A .holds) (table-ruled A R) id p (S .table .count)
       ∙ countBelow-cong (λ k. p k && liveOn (L .events) id k) (λ k. p k && liveOn (eventsOf tenant (L .events)) id k) (S .table .count)
@@ -88,7 +87,7 @@ module _ (tenant : ℕ) (S : State) (L : Ledger) (A : Agrees S L) (R : Rules L (
   own-opens : (caller id k : ℕ) → eqb caller tenant ≡ true → opensL L caller id k ≡ opensL K caller id k
   unfolding opensL trimmed
   own-opens caller id k s = settle-both (lookupRowsL L caller id) (lookupRowsL K caller id) (lookup-view tenant S L A caller id) (_≡_ {A = Bool}) _ _ false false
-      (λ z. ap (λ (o : Option Version). leb (lowestL o) k && readable (L .greatest) id k) (sym (last-own tenant id (own-tenant tenant caller id (lookup-own L caller id z) s) (L .events))))
+      (λ z. ap (λ (o : Option Version). leb (lowestL o) k && readsL L id k) (sym (last-own tenant id (own-tenant tenant caller id (lookup-own L caller id z) s) (L .events))))
       refl
 
   own-lookup : (caller id : ℕ) → eqb caller tenant ≡ true → lookupL L caller id .reply ≡ lookupL K caller id .reply

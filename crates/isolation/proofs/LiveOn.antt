@@ -13,7 +13,6 @@ use borrow.Author.Tests.{eqb-true, eqb-false, le-ltb}
 use Rattle.lists.specs.Below.{upward, countBelow}
 use Rattle.lists.proofs.Tests.{byBool}
 use Rattle.lists.proofs.Below.{countBelow-cong, length-upward}
-use Rattle.placement.specs.declared.Fraction.{Fraction}
 use Rattle.medium.specs.Entry.{markAt, bears, live}
 use Rattle.medium.specs.Burn.{marksOn, marksOver}
 use Rattle.medium.proofs.Entries.{bears-id, live-below}
@@ -37,7 +36,7 @@ stays-append id k (wrote a v s ∷ newer) older =
 stays-append id k (removed a ∷ newer) older =
     rw (stays-append id k newer older) (sym (and-assoc (not (eqb a id)) (staysLive id k newer) (staysLive id k older)))
 
-module _ {capacity count : ℕ} {greatest : ℕ → Fraction} {events : List Event} {m : List ℕ} (H : Holds capacity count greatest events m) (R : Ruled capacity events m) (id : ℕ) where
+module _ {capacity count : ℕ} {rule : ℕ → ℕ → Bool} {events : List Event} {m : List ℕ} (H : Holds capacity count rule events m) (R : Ruled capacity events m) (id : ℕ) where
   module _ (k : ℕ) where
     abbrev B : ℕ → Bool
     B j = bears capacity m id k j

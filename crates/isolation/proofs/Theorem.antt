@@ -46,15 +46,15 @@ module _ (tenant : ℕ) where
       (λ s. rw s (ih ∙ ap (λ (K : Ledger). foretold K (seen tenant calls) later) (unseen tenant L c s)))
 
   -- of a fresh ledger the tenant knows the capacity
-  same-fresh : (capacity n n′ : ℕ) → view tenant (freshLedger capacity n) ≡ view tenant (freshLedger capacity n′)
+  same-fresh : (capacity salt n n′ : ℕ) → view tenant (freshLedger capacity salt n) ≡ view tenant (freshLedger capacity salt n′)
   unfolding trimmed freshLedger
-  same-fresh capacity n n′ = refl
+  same-fresh capacity salt n n′ = refl
 
-pub isolation : (tenant capacity n n′ : ℕ) → firstOf (startRows capacity) ≡ 0 → (calls calls′ : List Call) → Isolation tenant capacity n n′ calls calls′
-isolation tenant capacity n n′ z calls calls′ = record {
+pub isolation : (tenant capacity salt n n′ : ℕ) → firstOf (startRows capacity salt) ≡ 0 → (calls calls′ : List Call) → Isolation tenant capacity salt n n′ calls calls′
+isolation tenant capacity salt n n′ z calls calls′ = record {
   same = λ s v.
-      foretells tenant calls (begin capacity n) (freshLedger capacity n) (begin-agrees capacity n z) (begin-rules capacity n)
-      ∙ ap₂ (foretold (view tenant (freshLedger capacity n))) s v
-      ∙ ap (λ (K : Ledger). foretold K (seen tenant calls′) (verdicts tenant (begin capacity n′) calls′)) (same-fresh tenant capacity n n′)
-      ∙ sym (foretells tenant calls′ (begin capacity n′) (freshLedger capacity n′) (begin-agrees capacity n′ z) (begin-rules capacity n′));
+      foretells tenant calls (begin capacity salt n) (freshLedger capacity salt n) (begin-agrees capacity salt n z) (begin-rules capacity salt n)
+      ∙ ap₂ (foretold (view tenant (freshLedger capacity salt n))) s v
+      ∙ ap (λ (K : Ledger). foretold K (seen tenant calls′) (verdicts tenant (begin capacity salt n′) calls′)) (same-fresh tenant capacity salt n n′)
+      ∙ sym (foretells tenant calls′ (begin capacity salt n′) (freshLedger capacity salt n′) (begin-agrees capacity salt n′ z) (begin-rules capacity salt n′));
 }

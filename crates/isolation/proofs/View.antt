@@ -9,11 +9,10 @@ use borrow.Author.Tests.{eq-eqb, ne-eqb}
 use Rattle.lists.specs.Below.{countBelow}
 use Rattle.lists.proofs.Tests.{byBool, true-not-false}
 use Rattle.tenants.specs.Tenant.{tenantOf}
-use Rattle.placement.specs.Rule.{readable}
 use Rattle.replies.specs.Refusal.{firstOf}
 use Rattle.replies.specs.declared.Reply.{Reply}
 use Rattle.history.specs.Call.{Call, addServer, reweight, write, delete, lookup, batch, Compared}
-use Rattle.history.specs.Ledger.{Event, wrote, removed, Ledger, Entered, told, wordsFor, lastWriteOf, targetL, batchL, rowsOf, doneOf}
+use Rattle.history.specs.Ledger.{Event, wrote, removed, Ledger, Entered, told, wordsFor, lastWriteOf, targetL, batchL, rowsOf, doneOf, readsL}
 use Rattle.isolation.specs.Seen.{supposed, Heard, toCall, toBatch}
 use Rattle.isolation.proofs.LiveOn.{liveOn}
 
@@ -27,6 +26,7 @@ eventsOf tenant (removed id ∷ older) = cond (eqb (tenantOf id) tenant) (remove
 unfoldable pub trimmed : Ledger → List Event → Ledger
 trimmed L events = record {
   capacity = L .capacity;
+  salt = L .salt;
   words = wordsFor L (L .servers);
   servers = L .servers;
   weight = L .weight;
@@ -53,7 +53,7 @@ enterV K c ok = cond (accepts K c ok)
 
 -- the live entries of an id on the readable servers from one up
 unfoldable pub liveFrom : Ledger → ℕ → ℕ → ℕ
-liveFrom K id from = countBelow (λ k. (leb from k && readable (K .greatest) id k) && liveOn (K .events) id k) (K .servers)
+liveFrom K id from = countBelow (λ k. (leb from k && readsL K id k) && liveOn (K .events) id k) (K .servers)
 
 -- the entries that a call invalidates
 unfoldable pub lostV : Ledger → Call → Bool → ℕ

@@ -8,7 +8,7 @@ use Rattle.placement.specs.Fraction.{exceeds, atLeast, raise}
 use Rattle.placement.specs.Rule.{shareOf, writeP, takes, pick, writeServer, readable}
 use Rattle.medium.specs.Entry.{serverAt, entryAt, bearsAt, live, blankRun}
 use Rattle.medium.specs.Burn.{burnAll, marksOn, marksOver, invalidations}
-use Rattle.table.specs.Sound.{readSound, serverSound, sound}
+use Rattle.table.specs.Sound.{inRange, readSound, serverSound, sound}
 use Rattle.upkeep.specs.Upkeep.{withServer, withWeight, oneMore, withEntry}
 use Rattle.replies.specs.Refusal.{firstOf, settle}
 use Rattle.replies.specs.Reply.{replyBy}
@@ -28,7 +28,7 @@ use Rattle.isolation.specs.Seen.{sees, supposed, verdict, shown, hears, 
 use Rattle.isolation.specs.Worked.{alone, among, both, expected, neighbours, spared, filled as full, Worked}
 
 pub worked : Worked
-unfolding alone among both expected neighbours spared full allBelow someBelow highest orZero upward countBelow total setBelow stepOf nonzero seedOf xorLeft xorRight roundOf drawOf exceeds atLeast raise shareOf writeP takes pick writeServer readable serverAt entryAt bearsAt live blankRun burnAll marksOn marksOver invalidations readSound serverSound sound withServer withWeight oneMore withEntry firstOf settle replyBy lastLive opening searchBelow searchFor startRows startTable addServerRows addServerReply addServerTable reweightRows reweightReply reweightTable short readyRows askedRows tenantOf outOfRange ofAnother target entryRows writeRows writeMarks writeBurns writeReply writeTable writeMedium isMet deleteRows deleteMarks deleteReply deleteMedium lookupRows metReply lookupReply lowest opens mounts endsAt byEnd order filled batchBy tooLong settledBatch lookupOpens openedAt batchRows batchReply reply next begin sees supposed verdict shown hears seen verdicts heard
+unfolding alone among both expected neighbours spared full allBelow someBelow highest orZero upward countBelow total setBelow stepOf nonzero seedOf xorLeft xorRight roundOf drawOf exceeds atLeast raise shareOf writeP takes pick writeServer readable serverAt entryAt bearsAt live blankRun burnAll marksOn marksOver invalidations inRange readSound serverSound sound withServer withWeight oneMore withEntry firstOf settle replyBy lastLive opening searchBelow searchFor startRows startTable addServerRows addServerReply addServerTable reweightRows reweightReply reweightTable short readyRows askedRows tenantOf outOfRange ofAnother target entryRows writeRows writeMarks writeBurns writeReply writeTable writeMedium isMet deleteRows deleteMarks deleteReply deleteMedium lookupRows metReply lookupReply lowest opens mounts endsAt byEnd order filled batchBy tooLong settledBatch lookupOpens openedAt batchRows batchReply reply next begin sees supposed verdict shown hears seen verdicts heard
 worked = record {
   seenSame = refl;
   verdictsSame = refl;

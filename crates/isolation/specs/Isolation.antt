@@ -14,7 +14,7 @@ use Rattle.isolation.specs.Seen.{seen, verdicts, heard}
 -- lookups and deletes, refusal numbers included, the whole answers to its batches, mounts and order included, and of its writes,
 -- of the add_servers and of the reweights all but the number of a refusal.
 -- proofs/Theorem shows it for every capacity that start accepts.
-pub record Isolation (tenant capacity n n′ : ℕ) (calls calls′ : List Call) : Type 0 where
+pub record Isolation (tenant capacity salt n n′ : ℕ) (calls calls′ : List Call) : Type 0 where
   pub same : seen tenant calls ≡ seen tenant calls′
-      → verdicts tenant (begin capacity n) calls ≡ verdicts tenant (begin capacity n′) calls′
-      → heard tenant (begin capacity n) calls ≡ heard tenant (begin capacity n′) calls′
+      → verdicts tenant (begin capacity salt n) calls ≡ verdicts tenant (begin capacity salt n′) calls′
+      → heard tenant (begin capacity salt n) calls ≡ heard tenant (begin capacity salt n′) calls′

@@ -90,13 +90,13 @@ filled = addServer 1 ∷ write 0 5 9 ∷ write 4 626627286 500 ∷ lookup 4 6266
 
 pub record Worked : Type 0 where
   pub seenSame : seen 4 alone ≡ seen 4 among
-  pub verdictsSame : verdicts 4 (begin 4 36) alone ≡ verdicts 4 (begin 4 40) among
-  pub heardAlone : heard 4 (begin 4 36) alone ≡ expected
-  pub heardAmong : heard 4 (begin 4 40) among ≡ expected
-  pub heardByOther : heard 0 (begin 4 40) among ≡ neighbours
+  pub verdictsSame : verdicts 4 (begin 4 0 36) alone ≡ verdicts 4 (begin 4 0 40) among
+  pub heardAlone : heard 4 (begin 4 0 36) alone ≡ expected
+  pub heardAmong : heard 4 (begin 4 0 40) among ≡ expected
+  pub heardByOther : heard 0 (begin 4 0 40) among ≡ neighbours
   -- the same is seen, but the write is not accepted in both, and another answer is heard; `refused 0 0` shows no number
   pub seenAlike : seen 4 spared ≡ seen 4 filled
-  pub verdictsSpared : verdicts 4 (begin 1 3) spared ≡ true ∷ true ∷ []
-  pub verdictsFilled : verdicts 4 (begin 1 3) filled ≡ true ∷ false ∷ []
-  pub heardSpared : heard 4 (begin 1 3) spared ≡ toCall (onServer 0 0) ∷ toCall (onServer 0 0) ∷ toCall (found 500 1) ∷ []
-  pub heardFilled : heard 4 (begin 1 3) filled ≡ toCall (onServer 0 0) ∷ toCall (refused 0 0) ∷ toCall (refused 8 1) ∷ []
+  pub verdictsSpared : verdicts 4 (begin 1 0 3) spared ≡ true ∷ true ∷ []
+  pub verdictsFilled : verdicts 4 (begin 1 0 3) filled ≡ true ∷ false ∷ []
+  pub heardSpared : heard 4 (begin 1 0 3) spared ≡ toCall (onServer 0 0) ∷ toCall (onServer 0 0) ∷ toCall (found 500 1) ∷ []
+  pub heardFilled : heard 4 (begin 1 0 3) filled ≡ toCall (onServer 0 0) ∷ toCall (refused 0 0) ∷ toCall (refused 8 1) ∷ []

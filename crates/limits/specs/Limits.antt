@@ -17,7 +17,7 @@ maxSum = 16777216
 abbrev pub maxIds : ℕ
 maxIds = 256
 
--- 2^30: ids and values are below it, and so is the content of a word, which has 30 bits
+-- 2^30: ids, values and salts are below it, and so is the content of a word, which has 30 bits
 abbrev pub contentRange : ℕ
 contentRange = 1073741824
 

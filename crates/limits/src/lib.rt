@@ -12,7 +12,7 @@ pub const MAX_SUM: u32 = 16777216;
 // Ids of a batch.
 pub const MAX_IDS: usize = 256;
 
-// 2^30: ids and values are below it, and so is the content of a word, which has 30 bits.
+// 2^30: ids, values and salts are below it, and so is the content of a word, which has 30 bits.
 pub const CONTENT_RANGE: u32 = 1073741824;
 
 // Tenants: their numbers are below it.

@@ -69,7 +69,7 @@ module _ (t u : Table) (m w : List ℕ) (id : ℕ) where
 
     pub same-met : searchFor t m id ≡ searchFor u w id
     unfolding searchFor opens
-    same-met = same-search (t .count) (λ k l. reads-same t u id k (a .readPs k l)) same-last ∙ ap (searchBelow u w id) (a .count)
+    same-met = same-search (t .count) (λ k l. reads-same t u id k (a .salt) (a .readPs k l)) same-last ∙ ap (searchBelow u w id) (a .count)
 
     -- the value word of the entry met
     same-value : (p : Place) → searchFor t m id .met ≡ some p

@@ -31,7 +31,7 @@ pub zero-read : (t : Table) → sound t ≡ true → 0 < t .count → (id : ℕ)
 unfolding readable takes
 zero-read t s l id =
     let k = sound-facts t s .server 0 l in
-    exceeds-grows modulus (writeP (weightOf t) 0) (readP t 0) (drawOf id 0) (k .positive) (k .reads) (zero-takes modulus (drawOf id) (weightOf t) (draw< id 0))
+    exceeds-grows modulus (writeP (weightOf t) 0) (readP t 0) (drawOf (t .salt) id 0) (k .positive) (k .reads) (zero-takes modulus (drawOf (t .salt) id) (weightOf t) (draw< (t .salt) id 0))
 
 module _ (t : Table) (m : List ℕ) (tenant id : ℕ) (z : firstOf (lookupRows t m tenant id) ≡ 0) where
   some-server : 0 < t .count

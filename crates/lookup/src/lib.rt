@@ -68,6 +68,7 @@ pub fn lookup(table: Table, medium: &[u32], tenant: u32, id: u32) -> LookupAnswe
 {
     let shape = Shape {
         capacity: table.capacity,
+        salt: table.salt,
         count: table.count,
     };
     let steps = draws::steps();

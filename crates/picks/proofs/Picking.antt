@@ -1,13 +1,13 @@
 -- Laws of the write servers over weights that passed their test.
 -- Assumes nothing.
-use Prim.Native.Nat.{ℕ, _<_, min}
+use Prim.Native.Nat.{ℕ, _≤_, _<_, min}
 use mathlib.Core.Path.{_≡_, refl}
 use mathlib.Core.Bool.{true, false}
 use mathlib.Core.List.{List}
 use native.Mathlib.Omega.{arith}
 use lib.ListN.{length}
 use lib.Dec.{leb}
-use borrow.Author.Tests.{leb-true}
+use borrow.Author.Tests.{leb-true, le-ltb, lt-ltb}
 use Rattle.lists.specs.Below.{nth, setBelow}
 use Rattle.lists.proofs.Tests.{and-l, and-r}
 use Rattle.lists.proofs.Below.{allBelow-out, highest-le}
@@ -24,23 +24,27 @@ bounded-facts ws e = record {
 }
 
 -- the write server of id i
-abbrev pub serverOf : List ℕ → List ℕ → ℕ → ℕ
-serverOf ws ids i = writeServer (nth ws) (length ws) (nth ids i)
+abbrev pub serverOf : List ℕ → ℕ → List ℕ → ℕ → ℕ
+serverOf ws salt ids i = writeServer (nth ws) (length ws) salt (nth ids i)
 
-pub picked-small : (ws ids : List ℕ) (i k : ℕ) → bounded ws ≡ true → k ≡ serverOf ws ids i → k < 4294967296
+pub picked-small : (ws : List ℕ) (salt : ℕ) (ids : List ℕ) (i k : ℕ) → bounded ws ≡ true → k ≡ serverOf ws salt ids i → k < 4294967296
 unfolding writeServer pick
-picked-small ws ids i k b e = omega (arith, highest-le (takes modulus (drawOf (nth ids i)) (writeP (nth ws))) (length ws), bounded-facts ws b .few)
+picked-small ws salt ids i k b e = omega (arith, highest-le (takes modulus (drawOf salt (nth ids i)) (writeP (nth ws))) (length ws), bounded-facts ws b .few)
 
 -- what `picks` ensures where it answers n
-abbrev pub Done : List ℕ → List ℕ → List ℕ → ℕ → List ℕ → Type 0
-Done ws ids servers n servers′ = (n ≡ picksOf ws ids servers) × (servers′ ≡ setBelow (serverOf ws ids) n servers)
+abbrev pub Done : List ℕ → ℕ → List ℕ → List ℕ → ℕ → List ℕ → Type 0
+Done ws salt ids servers n servers′ = (n ≡ picksOf ws salt ids servers) × (servers′ ≡ setBelow (serverOf ws salt ids) n servers)
 
-module _ (ws ids servers : List ℕ) where
-  pub none-picked : bounded ws ≡ false → Done ws ids servers 0 servers
+module _ (ws : List ℕ) (salt : ℕ) (ids servers : List ℕ) where
+  pub none-picked : bounded ws ≡ false → Done ws salt ids servers 0 servers
   unfolding picksOf setBelow
   none-picked b = rw b (refl, refl)
 
-  pub all-picked : (n : ℕ) (servers′ : List ℕ) → bounded ws ≡ true → n ≡ min (length ids) (length servers) → servers′ ≡ setBelow (serverOf ws ids) n servers
-      → Done ws ids servers n servers′
+  pub none-salted : bounded ws ≡ true → 1073741824 ≤ salt → Done ws salt ids servers 0 servers
+  unfolding picksOf setBelow
+  none-salted b s = rw (b, le-ltb salt 1073741824 s) (refl, refl)
+
+  pub all-picked : (n : ℕ) (servers′ : List ℕ) → bounded ws ≡ true → salt < 1073741824 → n ≡ min (length ids) (length servers)
+      → servers′ ≡ setBelow (serverOf ws salt ids) n servers → Done ws salt ids servers n servers′
   unfolding picksOf
-  all-picked n servers′ b e s = rw b (e, s)
+  all-picked n servers′ b s e d = rw (b, lt-ltb salt 1073741824 s) (e, d)

@@ -1,7 +1,7 @@
 -- Laws of the published rule.
 -- Assumes nothing.
 use Prim.Native.Nat.{ℕ, zero, suc, _-_, _≤_, _<_}
-use mathlib.Core.Path.{_≡_, refl, ap, sym}
+use mathlib.Core.Path.{_≡_, refl, sym, ap, ap₂, _∙_}
 use mathlib.Core.Bool.{Bool, true}
 use native.Mathlib.Numerals.{sub-one}
 use native.Mathlib.Omega.{arith}
@@ -61,11 +61,11 @@ pick-only m draw weight n k d a =
     (picked-highest m draw weight n (pick m draw weight n) (pick-is m draw weight n d (omega (arith, a .below))))
 
 -- so is the write server of an id
-pub writeServer-is : (weight : ℕ → ℕ) (n id : ℕ) → 0 < n → Picked modulus (drawOf id) weight n (writeServer weight n id)
+pub writeServer-is : (weight : ℕ → ℕ) (n salt id : ℕ) → 0 < n → Picked modulus (drawOf salt id) weight n (writeServer weight n salt id)
 unfolding writeServer
-writeServer-is weight n id l = pick-is modulus (drawOf id) weight n (draw< id 0) l
+writeServer-is weight n salt id l = pick-is modulus (drawOf salt id) weight n (draw< salt id 0) l
 
--- the rules read only the weights and fractions below the count
+-- the rules read only the salt, and the weights and fractions below the count
 pub writeP-cong : (v u : ℕ → ℕ) (k : ℕ) → ((i : ℕ) → i ≤ k → v i ≡ u i) → writeP v k ≡ writeP u k
 unfolding writeP
 writeP-cong v u k h = rw (h k (omega arith), total-cong v u (suc k) (λ i l. h i (omega arith)))
@@ -74,13 +74,18 @@ pub takes-cong : (m : ℕ) (draw : ℕ → ℕ) (f g : ℕ → Fraction) (k : �
 unfolding takes
 takes-cong m draw f g k e = rw e
 
-pub readable-cong : (f g : ℕ → Fraction) (id k : ℕ) → f k ≡ g k → readable f id k ≡ readable g id k
+pub readable-cong : (f g : ℕ → Fraction) (salt salt′ id k : ℕ) → salt ≡ salt′ → f k ≡ g k → readable f salt id k ≡ readable g salt′ id k
 unfolding readable
-readable-cong f g id k e = takes-cong modulus (drawOf id) f g k e
+readable-cong f g salt salt′ id k s e = ap (λ (n : ℕ). takes modulus (drawOf n id) f k) s ∙ takes-cong modulus (drawOf salt′ id) f g k e
 
-pub pick-cong : (m : ℕ) (draw v u : ℕ → ℕ) (n : ℕ) → ((i : ℕ) → i < n → v i ≡ u i) → pick m draw v n ≡ pick m draw u n
+pick-cong : (m : ℕ) (draw v u : ℕ → ℕ) (n : ℕ) → ((i : ℕ) → i < n → v i ≡ u i) → pick m draw v n ≡ pick m draw u n
 unfolding pick
 pick-cong m draw v u n h = ap orZero (highest-cong (takes m draw (writeP v)) (takes m draw (writeP u)) n (λ k l. takes-cong m draw (writeP v) (writeP u) k (writeP-cong v u k (λ i a. h i (omega arith)))))
+
+pub writeServer-cong : (v u : ℕ → ℕ) (n n′ salt salt′ id : ℕ) → ((i : ℕ) → i < n → v i ≡ u i) → n ≡ n′ → salt ≡ salt′
+    → writeServer v n salt id ≡ writeServer u n′ salt′ id
+unfolding writeServer
+writeServer-cong v u n n′ salt salt′ id h e s = pick-cong modulus (drawOf salt id) v u n h ∙ ap₂ (λ (a b : ℕ). pick modulus (drawOf a id) u b) s e
 
 -- the test at the last of k servers, by the sum of all k weights; a weight of 0 over that sum exceeds no draw, as 0/1 does not
 pub takes-last : (m : ℕ) (draw weight : ℕ → ℕ) (k : ℕ) → 1 < k

@@ -1,4 +1,5 @@
--- Document 01's starred lines, "Known draws and edges": one theorem over the definitions.
+-- Document 01's starred lines, "Known draws and edges": one theorem over the definitions. It knows no salt: its draws are those of
+-- salt 0.
 use Prim.Native.Nat.{ℕ, _+_, _%_}
 use mathlib.Core.Path.{_≡_, refl}
 use mathlib.Core.List.{List, [], _∷_}
@@ -7,9 +8,12 @@ use Rattle.draws.specs.Draw.{modulus, stepOf, nonzero, seedOf, xorLeft, xorRigh
 use Rattle.placement.specs.Fraction.{exceeds}
 use Rattle.placement.specs.Rule.{shareOf, writeP, takes, pick, writeServer}
 
--- the write server of id 626627286 among servers of these weights
+-- the draw under salt 0, and the write server of id 626627286 among servers of these weights
+abbrev pub plainDraw : ℕ → ℕ → ℕ
+plainDraw id k = drawOf 0 id k
+
 abbrev pub picked : List ℕ → ℕ → ℕ
-picked ws n = writeServer (nth ws) n 626627286
+picked ws n = writeServer (nth ws) n 0 626627286
 
 pub record KnownDraws : Type 0 where
   pub step0 : stepOf 0 ≡ 2654435769
@@ -17,9 +21,9 @@ pub record KnownDraws : Type 0 where
   pub oneRound : roundOf 1 ≡ 270369
   pub twoRounds : roundOf (roundOf 1) ≡ 67634689
   pub threeRounds : roundOf (roundOf (roundOf 1)) ≡ 2647435461
-  pub draw : drawOf 626627286 2 ≡ 2647435461
+  pub draw : plainDraw 626627286 2 ≡ 2647435461
   pub zeroSum : (626627285 + stepOf 2) % modulus ≡ 0
-  pub zeroSeed : drawOf 626627285 2 ≡ 2647435461
+  pub zeroSeed : plainDraw 626627285 2 ≡ 2647435461
   pub weights102 : picked (1 ∷ 0 ∷ 2 ∷ []) 3 ≡ 2
   pub weights202 : picked (2 ∷ 0 ∷ 2 ∷ []) 3 ≡ 0
   pub weights005 : picked (0 ∷ 0 ∷ 5 ∷ []) 3 ≡ 2

@@ -1,3 +1,4 @@
 pub mod Fraction
 pub mod Rule
 pub mod KnownDraws
+pub mod Salted

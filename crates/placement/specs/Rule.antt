@@ -1,5 +1,5 @@
 -- The published rule: WriteP, the write server and the readable servers.
--- The rule is over any modulus and any draw of each server; the archive's own are 2^32 and the draw of an id.
+-- The rule is over any modulus and any draw of each server; the archive's own are 2^32 and the draw of an id under its salt.
 use Prim.Native.Nat.{ℕ, suc, _≤_, _<_}
 use mathlib.Core.Bool.{Bool, true, false, cond}
 use mathlib.Core.List.{List}
@@ -31,13 +31,13 @@ takes m draw f k = exceeds m (f k) (draw k)
 unfoldable pub pick : ℕ → (ℕ → ℕ) → (ℕ → ℕ) → ℕ → ℕ
 pick m draw weight n = orZero (highest (takes m draw (writeP weight)) n)
 
--- the write server of an id, document 01's write shelf
-unfoldable pub writeServer : (ℕ → ℕ) → ℕ → ℕ → ℕ
-writeServer weight n id = pick modulus (drawOf id) weight n
+-- the write server of an id under a salt, document 01's write shelf
+unfoldable pub writeServer : (ℕ → ℕ) → ℕ → ℕ → ℕ → ℕ
+writeServer weight n salt id = pick modulus (drawOf salt id) weight n
 
--- server k is readable for an id by these fractions, which are ReadP
-unfoldable pub readable : (ℕ → Fraction) → ℕ → ℕ → Bool
-readable f id k = takes modulus (drawOf id) f k
+-- server k is readable for an id under a salt by these fractions, which are ReadP
+unfoldable pub readable : (ℕ → Fraction) → ℕ → ℕ → ℕ → Bool
+readable f salt id k = takes modulus (drawOf salt id) f k
 
 -- what the pick of n servers is, in the paper's words and without recursion: of the servers below n that take, it is the highest
 pub record Picked (m : ℕ) (draw weight : ℕ → ℕ) (n k : ℕ) : Type 0 where

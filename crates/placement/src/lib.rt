@@ -62,14 +62,14 @@ pub fn at_least_write_p(f: Fraction, server: usize, weight: u32, sum: u32) -> bo
     )
 }
 
-// Whether a server with this fraction takes an id: the fraction exceeds the server's draw. With WriteP it is the write
-// rule, with ReadP the read rule.
-pub fn takes(f: Fraction, steps: &[u32], id: u32, server: usize) -> bool
+// Whether a server with this fraction takes an id under a salt: the fraction exceeds the server's draw. With WriteP it is the
+// write rule, with ReadP the read rule.
+pub fn takes(f: Fraction, steps: &[u32], salt: u32, id: u32, server: usize) -> bool
     requires { ⌜ areSteps (now steps) ≡ true ⌝ }
     requires { ⌜ server < maxServers ⌝ }
-    ensures { λ r. ⌜ r ≡ exceeds modulus f (drawOf id server) ⌝ }
+    ensures { λ r. ⌜ r ≡ exceeds modulus f (drawOf salt id server) ⌝ }
 {
-    exceeds(f, draws::draw(steps, id, server))
+    exceeds(f, draws::draw(steps, salt, id, server))
 }
 
 // The sum of the first `count` weights.
@@ -86,12 +86,12 @@ pub fn sum_weights(weights: &[u32], count: usize) -> u32
     sum
 }
 
-// The write server of an id among `count` servers: from the highest down, the first whose WriteP exceeds its draw. Server 0 takes what
+// The write server of an id under a salt among `count` servers: from the highest down, the first whose WriteP exceeds its draw. Server 0 takes what
 // no other does, so that the loop ends above it. A weight of 0 needs no case of its own, since a fraction of 0 exceeds no draw.
-pub fn write_server(weights: &[u32], steps: &[u32], count: usize, id: u32) -> usize
+pub fn write_server(weights: &[u32], steps: &[u32], count: usize, salt: u32, id: u32) -> usize
     requires { ⌜ Bounded (now weights) count ⌝ }
     requires { ⌜ areSteps (now steps) ≡ true ⌝ }
-    ensures { λ r. ⌜ r ≡ writeServer (nth (now (weights .entry))) count id ⌝ }
+    ensures { λ r. ⌜ r ≡ writeServer (nth (now (weights .entry))) count salt id ⌝ }
 {
     let mut sum = sum_weights(weights, count);
     let mut k = count;
@@ -102,7 +102,7 @@ pub fn write_server(weights: &[u32], steps: &[u32], count: usize, id: u32) -> us
             num: weight,
             den: sum,
         };
-        if takes(write, steps, id, k) {
+        if takes(write, steps, salt, id, k) {
             return k;
         }
         sum -= weight;

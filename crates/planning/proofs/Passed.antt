@@ -21,9 +21,9 @@ use Rattle.checks.proofs.Passed.{Asked, asked-numbered, asked-tests, asked-read
 use Rattle.planning.specs.WriteRows.{target, entryRows, writeRows}
 
 -- the write server is the published pick
-pub target-is : (t : Table) (id : ℕ) → 0 < t .count → Picked modulus (drawOf id) (weightOf t) (t .count) (target t id)
+pub target-is : (t : Table) (id : ℕ) → 0 < t .count → Picked modulus (drawOf (t .salt) id) (weightOf t) (t .count) (target t id)
 unfolding target
-target-is t id l = writeServer-is (weightOf t) (t .count) id l
+target-is t id l = writeServer-is (weightOf t) (t .count) (t .salt) id l
 
 -- its numbers are in range, and it goes to a server that is there and has an entry left, which is blank
 pub record WriteAccepted (t : Table) (m : List ℕ) (tenant id value : ℕ) : Type 0 where

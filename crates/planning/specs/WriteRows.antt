@@ -14,7 +14,7 @@ use Rattle.checks.specs.Ready.{askedRows}
 
 -- the server that a write goes to; its entry there is the server's used
 unfoldable pub target : Table → ℕ → ℕ
-target t id = writeServer (weightOf t) (t .count) id
+target t id = writeServer (weightOf t) (t .count) (t .salt) id
 
 -- what only a write tests: whether its server is full, and whether a word of its entry there is not blank
 unfoldable pub entryRows : Table → List ℕ → ℕ → List Row

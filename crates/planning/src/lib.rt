@@ -35,6 +35,7 @@ pub fn plan_write<'a>(
         ≡ settle (writeRows (tableOf shape (columns .entry)) (now (medium .entry)) tenant id value) (target (tableOf shape (columns .entry)) id) 0 ⌝ }
 {
     let capacity = shape.capacity;
+    let salt = shape.salt;
     let count = shape.count;
     let weights = columns[0];
     let used = columns[1];
@@ -42,7 +43,7 @@ pub fn plan_write<'a>(
     if let Check::Refused(refusal) = check {
         return Plan::Refused(refusal);
     }
-    let server = placement::write_server(weights, steps, count, id);
+    let server = placement::write_server(weights, steps, count, salt, id);
     let entry = used[server];
     if entry == capacity {
         return Plan::Refused(Refusal::ServerFull);

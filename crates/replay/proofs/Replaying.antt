@@ -67,27 +67,27 @@ module _ (f : ℕ → Reply) (words : List ℕ) where
       stored-below (withReplies f n words) n (f n) i (f i) h (stored-all n (omega arith) i h))
 
 -- on blank words the replies are the plain ledger's
-module _ (capacity : ℕ) (z : firstOf (startRows capacity) ≡ 0) (m : List ℕ) (b : (a : ℕ) → a < length m → nth m a ≡ blank) where
-  ledger-alike : (calls : List Call) (o : Option Call) → compared (replyTo (after (begin capacity (length m)) calls) o) ≡ ledgerReplyTo (ledgerAfter (freshLedger capacity (length m)) calls) o
+module _ (capacity salt : ℕ) (z : firstOf (startRows capacity salt) ≡ 0) (m : List ℕ) (b : (a : ℕ) → a < length m → nth m a ≡ blank) where
+  ledger-alike : (calls : List Call) (o : Option Call) → compared (replyTo (after (begin capacity salt (length m)) calls) o) ≡ ledgerReplyTo (ledgerAfter (freshLedger capacity salt (length m)) calls) o
   unfolding replyTo ledgerReplyTo compared
   ledger-alike calls none = refl
   ledger-alike calls (some c) =
-      let r = run calls (begin capacity (length m)) (freshLedger capacity (length m)) (begin-agrees capacity (length m) z) in
+      let r = run calls (begin capacity salt (length m)) (freshLedger capacity salt (length m)) (begin-agrees capacity salt (length m) z) in
       step _ _ (r .agrees) c .alike
 
-  alike-at : (calls : List ℕ) (i : ℕ) → compared (replyAt (startState capacity m) calls i) ≡ ledgerReplyAt capacity (length m) calls i
+  alike-at : (calls : List ℕ) (i : ℕ) → compared (replyAt (startState capacity salt m) calls i) ≡ ledgerReplyAt capacity salt (length m) calls i
   unfolding replyAt ledgerReplyAt begin
   alike-at calls i =
-      ap (λ (w : List ℕ). compared (replyTo (after (startState capacity w) (callsBelow calls i)) (callAt calls i))) (replicate-all blank m b)
+      ap (λ (w : List ℕ). compared (replyTo (after (startState capacity salt w) (callsBelow calls i)) (callAt calls i))) (replicate-all blank m b)
       ∙ ledger-alike (callsBelow calls i) (callAt calls i)
 
-ledger-words : (capacity : ℕ) → firstOf (startRows capacity) ≡ 0 → (m calls words : List ℕ) (n : ℕ) → replyLength * n ≤ length words
-    → LedgerWords capacity m calls n (withReplies (replyAt (startState capacity m) calls) n words)
+ledger-words : (capacity salt : ℕ) → firstOf (startRows capacity salt) ≡ 0 → (m calls words : List ℕ) (n : ℕ) → replyLength * n ≤ length words
+    → LedgerWords capacity salt m calls n (withReplies (replyAt (startState capacity salt m) calls) n words)
 unfolding compared
-ledger-words capacity z m calls words n fits = record {
+ledger-words capacity salt z m calls words n fits = record {
   alike = λ b i l.
-      let s = stored-all (replyAt (startState capacity m) calls) words n fits i l in
-      rw (s .refusal, s .server, s .value, s .opened) (alike-at capacity z m b calls i);
+      let s = stored-all (replyAt (startState capacity salt m) calls) words n fits i l in
+      rw (s .refusal, s .server, s .value, s .opened) (alike-at capacity salt z m b calls i);
 }
 
 -- once i calls are run on a table lent as words
@@ -171,36 +171,36 @@ module _ (words m calls replies : List ℕ) (n : ℕ) (l : tableLength ≤ lengt
   }
 
 -- what `replay` ensures where it answers n
-abbrev pub Done : ℕ → List ℕ → List ℕ → List ℕ → ℕ → List ℕ → List ℕ → Type 0
-Done capacity m calls words n medium replies =
-    (n ≡ runs capacity calls words)
-    × ((medium ≡ after (startState capacity m) (callsBelow calls n) .medium)
-    × ((replies ≡ withReplies (replyAt (startState capacity m) calls) n words)
-    × LedgerWords capacity m calls n replies))
+abbrev pub Done : ℕ → ℕ → List ℕ → List ℕ → List ℕ → ℕ → List ℕ → List ℕ → Type 0
+Done capacity salt m calls words n medium replies =
+    (n ≡ runs capacity salt calls words)
+    × ((medium ≡ after (startState capacity salt m) (callsBelow calls n) .medium)
+    × ((replies ≡ withReplies (replyAt (startState capacity salt m) calls) n words)
+    × LedgerWords capacity salt m calls n replies))
 
-module _ (capacity : ℕ) (m calls words : List ℕ) where
+module _ (capacity salt : ℕ) (m calls words : List ℕ) where
   -- none, from a start that was refused
-  pub refused-run : firstOf (startRows capacity) ≢ 0 → Done capacity m calls words 0 m words
+  pub refused-run : firstOf (startRows capacity salt) ≢ 0 → Done capacity salt m calls words 0 m words
   unfolding runs after callsBelow withReplies
-  refused-run f = (sym (settle-no (startRows capacity) _ 0 f), (refl, (refl, record { alike = λ b i l. absurd (omega arith) })))
+  refused-run f = (sym (settle-no (startRows capacity salt) _ 0 f), (refl, (refl, record { alike = λ b i l. absurd (omega arith) })))
 
   -- all of them, from a start that was accepted
-  pub all-run : (n : ℕ) (S : State) (medium replies : List ℕ) → firstOf (startRows capacity) ≡ 0 → n ≡ roomFor (length calls) (length words)
-      → S ≡ startState capacity m
+  pub all-run : (n : ℕ) (S : State) (medium replies : List ℕ) → firstOf (startRows capacity salt) ≡ 0 → n ≡ roomFor (length calls) (length words)
+      → S ≡ startState capacity salt m
       → medium ≡ after S (callsBelow calls n) .medium
       → replies ≡ withReplies (replyAt S calls) n words
-      → Done capacity m calls words n medium replies
+      → Done capacity salt m calls words n medium replies
   unfolding runs
   all-run n S medium replies z o b d e =
-      let r : replies ≡ withReplies (replyAt (startState capacity m) calls) n words = rw b at e in
-      (o ∙ sym (settle-yes (startRows capacity) _ 0 z), (rw b at d, (r, rw r (ledger-words capacity z m calls words n (omega arith)))))
+      let r : replies ≡ withReplies (replyAt (startState capacity salt m) calls) n words = rw b at e in
+      (o ∙ sym (settle-yes (startRows capacity salt) _ 0 z), (rw b at d, (r, rw r (ledger-words capacity salt z m calls words n (omega arith)))))
 
 -- a started table, stored in front of words
-pub started-words : (capacity : ℕ) (m words words′ : List ℕ) (t : Table) → tableLength ≤ length words → t ≡ startTable capacity → words′ ≡ withTable words t
-    → (lent words′ m ≡ startState capacity m) × (tableLength ≤ length words′)
-started-words capacity m words words′ t l e f =
-    let a = start-arrays capacity in
-    let w : words′ ≡ withTable words (startTable capacity) = rw e at f in (
-      ap (λ (u : Table). record { table = u; medium = m }) (ap tableFrom w ∙ stored-lent words (startTable capacity) l a),
-      omega (arith, ap length w, length-stored words (startTable capacity) l a),
+pub started-words : (capacity salt : ℕ) (m words words′ : List ℕ) (t : Table) → tableLength ≤ length words → t ≡ startTable capacity salt → words′ ≡ withTable words t
+    → (lent words′ m ≡ startState capacity salt m) × (tableLength ≤ length words′)
+started-words capacity salt m words words′ t l e f =
+    let a = start-arrays capacity salt in
+    let w : words′ ≡ withTable words (startTable capacity salt) = rw e at f in (
+      ap (λ (u : Table). record { table = u; medium = m }) (ap tableFrom w ∙ stored-lent words (startTable capacity salt) l a),
+      omega (arith, ap length w, length-stored words (startTable capacity salt) l a),
     )

@@ -40,23 +40,23 @@ withReplies f (suc n) words = withReply (withReplies f n words) n (f n)
 unfoldable pub replyAt : State → List ℕ → ℕ → Reply
 replyAt S calls i = replyTo (after S (callsBelow calls i)) (callAt calls i)
 
--- how many calls are run on a started table: none where start refuses the capacity
-unfoldable pub runs : ℕ → List ℕ → List ℕ → ℕ
-runs capacity calls replies = settle (startRows capacity) (roomFor (length calls) (length replies)) 0
+-- how many calls are run on a started table: none where start refuses the capacity or the salt
+unfoldable pub runs : ℕ → ℕ → List ℕ → List ℕ → ℕ
+runs capacity salt calls replies = settle (startRows capacity salt) (roomFor (length calls) (length replies)) 0
 
 -- a started table over a lent medium
-abbrev pub startState : ℕ → List ℕ → State
-startState capacity m = record { table = startTable capacity; medium = m }
+abbrev pub startState : ℕ → ℕ → List ℕ → State
+startState capacity salt m = record { table = startTable capacity salt; medium = m }
 
 -- the ledger's reply to call i
-unfoldable pub ledgerReplyAt : ℕ → ℕ → List ℕ → ℕ → Compared
-ledgerReplyAt capacity n calls i = ledgerReplyTo (ledgerAfter (freshLedger capacity n) (callsBelow calls i)) (callAt calls i)
+unfoldable pub ledgerReplyAt : ℕ → ℕ → ℕ → List ℕ → ℕ → Compared
+ledgerReplyAt capacity salt n calls i = ledgerReplyTo (ledgerAfter (freshLedger capacity salt n) (callsBelow calls i)) (callAt calls i)
 
 -- what is compared of reply i, by its words
 abbrev pub comparedAt : List ℕ → ℕ → Compared
 comparedAt words i = told (replyWord words i refusalOffset) (replyWord words i serverOffset) (replyWord words i valueOffset) (replyWord words i openedOffset)
 
 -- on blank words the replies' refusal, server, value and opened are the plain ledger's
-pub record LedgerWords (capacity : ℕ) (m calls : List ℕ) (n : ℕ) (replies : List ℕ) : Type 0 where
+pub record LedgerWords (capacity salt : ℕ) (m calls : List ℕ) (n : ℕ) (replies : List ℕ) : Type 0 where
   pub alike : ((a : ℕ) → a < length m → nth m a ≡ blank)
-      → (i : ℕ) → i < n → comparedAt replies i ≡ ledgerReplyAt capacity (length m) calls i
+      → (i : ℕ) → i < n → comparedAt replies i ≡ ledgerReplyAt capacity salt (length m) calls i

@@ -63,14 +63,20 @@ fn zero_words() -> [u32; TABLE_LENGTH]
 }
 
 // Runs as many of the encoded calls as both slices have room for on a started table, and answers their number.
-pub fn replay(capacity: u32, calls: &[u32], medium: &mut [u32], replies: &mut [u32]) -> usize
-    ensures number { λ r. ⌜ r ≡ runs capacity (now (calls .entry)) (now (replies .entry)) ⌝ }
-    ensures words { λ r. ⌜ now (medium .exit) ≡ after (startState capacity (now (medium .entry))) (callsBelow (now (calls .entry)) r) .medium ⌝ }
+pub fn replay(
+    capacity: u32,
+    salt: u32,
+    calls: &[u32],
+    medium: &mut [u32],
+    replies: &mut [u32],
+) -> usize
+    ensures number { λ r. ⌜ r ≡ runs capacity salt (now (calls .entry)) (now (replies .entry)) ⌝ }
+    ensures words { λ r. ⌜ now (medium .exit) ≡ after (startState capacity salt (now (medium .entry))) (callsBelow (now (calls .entry)) r) .medium ⌝ }
     ensures replies { λ r. ⌜ now (replies .exit)
-        ≡ withReplies (replyAt (startState capacity (now (medium .entry))) (now (calls .entry))) r (now (replies .entry)) ⌝ }
-    ensures ledger { λ r. ⌜ LedgerWords capacity (now (medium .entry)) (now (calls .entry)) r (now (replies .exit)) ⌝ }
+        ≡ withReplies (replyAt (startState capacity salt (now (medium .entry))) (now (calls .entry))) r (now (replies .entry)) ⌝ }
+    ensures ledger { λ r. ⌜ LedgerWords capacity salt (now (medium .entry)) (now (calls .entry)) r (now (replies .exit)) ⌝ }
 {
-    let begun = servers::start(capacity);
+    let begun = servers::start(capacity, salt);
     let answer = begun.answer;
     if let Check::Refused(_) = answer {
         return 0;
@@ -83,7 +89,7 @@ pub fn replay(capacity: u32, calls: &[u32], medium: &mut [u32], replies: &mut [u
     n
 }
 
-// Runs encoded calls on a table lent as 1,026 words, and stores the table back. Where there are fewer words, it runs none.
+// Runs encoded calls on a table lent as 1,027 words, and stores the table back. Where there are fewer words, it runs none.
 pub fn resume(table: &mut [u32], calls: &[u32], medium: &mut [u32], replies: &mut [u32]) -> usize
     ensures number { λ r. ⌜ r ≡ resumes (now (table .entry)) (now (calls .entry)) (now (replies .entry)) ⌝ }
     ensures table { λ r. ⌜ now (table .exit)

@@ -77,7 +77,7 @@ module _ (t : Table) (m : List ℕ) (id : ℕ) where
   all-left = ap (λ (n : ℕ). answerAt n (searchBelow t m id (t .count) .met)) (omega arith)
 
   -- the highest server left; r is what the code's test of it answers
-  module _ (opened k : ℕ) (l : 0 < k) {r : Bool} (e : r ≡ exceeds modulus (readP t (k - 1)) (drawOf id (k - 1))) where
+  module _ (opened k : ℕ) (l : 0 < k) {r : Bool} (e : r ≡ exceeds modulus (readP t (k - 1)) (drawOf (t .salt) id (k - 1))) where
     pub server-skipped : r ≡ false → serversLeft opened k ≡ serversLeft opened (k - 1)
     unfolding serversLeft readable takes
     server-skipped d = ap (after opened) (search-last k false l (sym e ∙ d))

@@ -12,9 +12,7 @@ use borrow.Author.Tests.{le-leb, lt-leb, leb-true, leb-false, eqb-true, eqb-fals
 use Rattle.lists.specs.Below.{highest, orZero, downward, countBelow}
 use Rattle.lists.proofs.Tests.{byBool, true-not-false, and-i}
 use Rattle.lists.proofs.Below.{Highest, highest-is}
-use Rattle.draws.specs.Draw.{modulus, drawOf}
-use Rattle.placement.specs.Rule.{readable}
-use Rattle.placement.proofs.Rules.{takes-cong}
+use Rattle.placement.proofs.Rules.{readable-cong}
 use Rattle.medium.specs.Entry.{live}
 use Rattle.medium.proofs.Entries.{live-used}
 use Rattle.table.specs.declared.Table.{Table}
@@ -22,10 +20,9 @@ use Rattle.table.specs.Parts.{tableBy, usedOf, readP, reads}
 use Rattle.search.specs.Search.{Place, Search, lastLive, opening, searchBelow, searchFor}
 use Rattle.search.specs.Opened.{Met, NoneMet, lowest, opens, Opened}
 
--- of a table the read rule sees ReadP alone
-pub reads-same : (t u : Table) (id k : ℕ) → readP t k ≡ readP u k → reads t id k ≡ reads u id k
-unfolding readable
-reads-same t u id k e = takes-cong modulus (drawOf id) (readP t) (readP u) k e
+-- of a table the read rule sees the salt and ReadP alone
+pub reads-same : (t u : Table) (id k : ℕ) → t .salt ≡ u .salt → readP t k ≡ readP u k → reads t id k ≡ reads u id k
+reads-same t u id k s e = readable-cong (readP t) (readP u) _ _ id k s e
 
 -- out of the highest number that passes
 pub highest-at : (p : ℕ → Bool) (n k : ℕ) → highest p n ≡ some k → (k < n) × (p k ≡ true)
@@ -69,7 +66,7 @@ length-downward p (suc n) = byBool (p n)
 module _ (t : Table) (m : List ℕ) (id : ℕ) where
   -- t with its first n servers alone
   abbrev first : ℕ → Table
-  first n = tableBy (record { capacity = t .capacity; count = n }) (t .weights) (t .used) (t .numerators) (t .denominators)
+  first n = tableBy (record { capacity = t .capacity; salt = t .salt; count = n }) (t .weights) (t .used) (t .numerators) (t .denominators)
 
   -- server k is readable, and not below the server of o
   abbrev from : Option Place → ℕ → Bool

@@ -43,6 +43,7 @@ pub record Opened (t : Table) (m : List ℕ) (id : ℕ) : Type 0 where
 -- two tables and two media that are the same but for the used and the words of servers that the lookup does not open
 pub record SameOpened (t u : Table) (m w : List ℕ) (id : ℕ) : Type 0 where
   pub capacity : t .capacity ≡ u .capacity
+  pub salt : t .salt ≡ u .salt
   pub count : t .count ≡ u .count
   pub weights : (k : ℕ) → k < t .count → weightOf t k ≡ weightOf u k
   pub readPs : (k : ℕ) → k < t .count → readP t k ≡ readP u k

@@ -30,6 +30,7 @@ pub fn find<'a>(
     ensures { λ r. ⌜ r ≡ answerOf (searchFor (tableOf shape (columns .entry)) (now (medium .entry)) id) ⌝ }
 {
     let capacity = shape.capacity;
+    let salt = shape.salt;
     let count = shape.count;
     let used = columns[1];
     let numerators = columns[2];
@@ -45,7 +46,7 @@ pub fn find<'a>(
             num: numerators[k],
             den: denominators[k],
         };
-        if placement::takes(read, steps, id, k) {
+        if placement::takes(read, steps, salt, id, k) {
             opened += 1;
             j = used[k] as usize;
             while 0 < j {

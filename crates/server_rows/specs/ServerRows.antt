@@ -1,19 +1,19 @@
 -- The rows of refusals of start, add_server and reweight in the order of the tests (document 01, "The calls" and its table of
--- refusals). t is the table and m the medium as lent.
+-- refusals; document 02, item 4). t is the table and m the medium as lent.
 use Prim.Native.Nat.{ℕ, suc, _-_}
-use mathlib.Core.Bool.{not, _&&_}
+use mathlib.Core.Bool.{not}
 use mathlib.Core.List.{List, [], _∷_}
 use lib.ListN.{length}
 use lib.Dec.{leb, ltb, eqb}
-use Rattle.limits.specs.Limits.{maxServers, maxCapacity}
+use Rattle.limits.specs.Limits.{maxServers}
 use Rattle.medium.specs.Entry.{serverWords, serverAt, blankRun}
 use Rattle.table.specs.declared.Table.{Table}
 use Rattle.table.specs.Parts.{entriesOf, usedOf}
-use Rattle.table.specs.Sound.{sound}
+use Rattle.table.specs.Sound.{inRange, sound}
 use Rattle.replies.specs.Refusal.{Row, _when_}
 
-unfoldable pub startRows : ℕ → List Row
-startRows capacity = 2 when not (leb 1 capacity && leb capacity maxCapacity) ∷ []
+unfoldable pub startRows : ℕ → ℕ → List Row
+startRows capacity salt = 2 when not (inRange capacity salt) ∷ []
 
 -- add_server, the paper's fit
 unfoldable pub addServerRows : Table → List ℕ → ℕ → List Row

@@ -5,20 +5,16 @@ ghost use Rattle.table.specs.Parts.{tableOf, Whole};
 ghost use Rattle.replies.specs.Refusal.{firstOf};
 ghost use Rattle.replies.specs.Reply.{checkNumber};
 ghost use Rattle.server_rows.specs.ServerRows.{startRows, addServerRows, reweightRows};
-use limits::MAX_CAPACITY;
 use limits::MAX_SERVERS;
 use replies::Check;
 use replies::Refusal;
 use table::Columns;
 use table::Shape;
 
-pub fn start(capacity: u32) -> Check
-    ensures { λ r. ⌜ checkNumber r ≡ firstOf (startRows capacity) ⌝ }
+pub fn start(capacity: u32, salt: u32) -> Check
+    ensures { λ r. ⌜ checkNumber r ≡ firstOf (startRows capacity salt) ⌝ }
 {
-    if capacity < 1 {
-        return Check::Refused(Refusal::OutOfRange);
-    }
-    if capacity > MAX_CAPACITY {
+    if !table::in_range(capacity, salt) {
         return Check::Refused(Refusal::OutOfRange);
     }
     Check::Accepted

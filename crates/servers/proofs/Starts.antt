@@ -17,26 +17,26 @@ use Rattle.replies.proofs.Answers.{number-not-zero, reply-number}
 use Rattle.server_rows.specs.ServerRows.{startRows}
 use Rattle.servers.specs.Servers.{startReply, startTable}
 
-module _ (capacity : ℕ) where
-  pub start-number : startReply capacity .refusal ≡ firstOf (startRows capacity)
+module _ (capacity salt : ℕ) where
+  pub start-number : startReply capacity salt .refusal ≡ firstOf (startRows capacity salt)
   unfolding startReply
-  start-number = reply-number (startRows capacity) _ refl
+  start-number = reply-number (startRows capacity salt) _ refl
 
   -- its answer, matched on
-  module _ {c : Check} (is : replyOfCheck c ≡ startReply capacity) where
-    pub start-accepted : c ≡ Accepted → firstOf (startRows capacity) ≡ 0
+  module _ {c : Check} (is : replyOfCheck c ≡ startReply capacity salt) where
+    pub start-accepted : c ≡ Accepted → firstOf (startRows capacity salt) ≡ 0
     unfolding replyOfCheck
     start-accepted e = sym (ap (λ (r : Reply). r .refusal) (sym (ap replyOfCheck e) ∙ is) ∙ start-number)
 
-    pub start-refused : {x : Refusal} → c ≡ Refused x → firstOf (startRows capacity) ≢ 0
+    pub start-refused : {x : Refusal} → c ≡ Refused x → firstOf (startRows capacity salt) ≢ 0
     unfolding replyOfCheck
     start-refused {x} e z = number-not-zero x (ap (λ (r : Reply). r .refusal) (sym (ap replyOfCheck e) ∙ is) ∙ start-number ∙ z)
 
   -- its table, accepted or refused
-  pub start-arrays : Arrays (startTable capacity)
+  pub start-arrays : Arrays (startTable capacity salt)
   unfolding startTable
-  start-arrays = settle-either (startRows capacity) _ _ Arrays (λ _. empty-arrays capacity) (empty-arrays 0)
+  start-arrays = settle-either (startRows capacity salt) _ _ Arrays (λ _. empty-arrays capacity salt) (empty-arrays 0 0)
 
-  pub start-count : (t : Table) → t ≡ startTable capacity → t .count < 4294967296
+  pub start-count : (t : Table) → t ≡ startTable capacity salt → t .count < 4294967296
   unfolding startTable
-  start-count t e = rw e (settle-either (startRows capacity) _ _ (λ (u : Table). u .count < 4294967296) (λ _. omega arith) (omega arith))
+  start-count t e = rw e (settle-either (startRows capacity salt) _ _ (λ (u : Table). u .count < 4294967296) (λ _. omega arith) (omega arith))

@@ -1,4 +1,4 @@
--- Start, add_server and reweight (document 01, "The calls"): for each its reply, and the table that it leaves. t is the table and
+-- Start, add_server and reweight (document 01, "The calls", and document 02, item 4): for each its reply, and the table that it leaves. t is the table and
 -- m the medium as lent.
 use Prim.Native.Nat.{ℕ}
 use mathlib.Core.List.{List}
@@ -10,14 +10,14 @@ use Rattle.replies.specs.declared.Reply.{Reply}
 use Rattle.replies.specs.Reply.{accepted, onServer, replyBy}
 use Rattle.server_rows.specs.ServerRows.{startRows, addServerRows, reweightRows}
 
--- start
+-- start: a capacity and a salt
 
-unfoldable pub startReply : ℕ → Reply
-startReply capacity = replyBy (startRows capacity) accepted
+unfoldable pub startReply : ℕ → ℕ → Reply
+startReply capacity salt = replyBy (startRows capacity salt) accepted
 
 -- a refused start gives a table of all zeros
-unfoldable pub startTable : ℕ → Table
-startTable capacity = settle (startRows capacity) (empty capacity) (empty 0)
+unfoldable pub startTable : ℕ → ℕ → Table
+startTable capacity salt = settle (startRows capacity salt) (empty capacity salt) (empty 0 0)
 
 -- add_server, the paper's fit: the medium is only read
 

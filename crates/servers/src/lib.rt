@@ -20,22 +20,22 @@ pub struct Changed {
     pub table: Table,
 }
 
-// Starts a table of no server, or one of all zeros where the capacity is refused.
-pub fn start(capacity: u32) -> Started
-    ensures reply { λ r. ⌜ replyOfCheck (r .answer) ≡ startReply capacity ⌝ }
-    ensures table { λ r. ⌜ r .table ≡ startTable capacity ⌝ }
+// Starts a table of no server, or one of all zeros where the capacity or the salt is refused.
+pub fn start(capacity: u32, salt: u32) -> Started
+    ensures reply { λ r. ⌜ replyOfCheck (r .answer) ≡ startReply capacity salt ⌝ }
+    ensures table { λ r. ⌜ r .table ≡ startTable capacity salt ⌝ }
 {
-    let answer = server_rows::start(capacity);
+    let answer = server_rows::start(capacity, salt);
     match answer {
         Check::Refused(_) => {
-            let zeros = table::empty(0);
+            let zeros = table::empty(0, 0);
             Started {
                 answer,
                 table: zeros,
             }
         }
         Check::Accepted => {
-            let empty = table::empty(capacity);
+            let empty = table::empty(capacity, salt);
             Started {
                 answer,
                 table: empty,
@@ -51,6 +51,7 @@ pub fn add_server(table: Table, medium: &[u32], weight: u32) -> Changed
 {
     let shape = Shape {
         capacity: table.capacity,
+        salt: table.salt,
         count: table.count,
     };
     let columns: Columns = [
@@ -83,6 +84,7 @@ pub fn reweight(table: Table, server: usize, weight: u32) -> Changed
 {
     let shape = Shape {
         capacity: table.capacity,
+        salt: table.salt,
         count: table.count,
     };
     let columns: Columns = [

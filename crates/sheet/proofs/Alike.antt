@@ -15,7 +15,7 @@ use Rattle.parsing.specs.declared.Line.{Line}
 use Rattle.parsing.specs.declared.Line.the-variants as line
 use Rattle.parsing.specs.Line.{lineOf}
 use Rattle.printing.specs.Print.{question}
-use Rattle.sheet_start.specs.SheetStart.{Sheet, startRun}
+use Rattle.sheet_start.specs.SheetStart.{Sheet, sheetSalt, startRun}
 use Rattle.sheet_call.specs.SheetCall.{callRun}
 use Rattle.line_run.specs.LineRun.{lineRun}
 use Rattle.sheet.specs.Sheet.{linesOf, run, outputOf}
@@ -28,8 +28,8 @@ line-alike : (lines : List (List ℕ)) (m m′ : List ℕ) → length m ≡ leng
     → (L : Line)
     → lineRun (fresh m) L .bytes ++ run (lineRun (fresh m) L .sheet) lines .bytes ≡ lineRun (fresh m′) L .bytes ++ run (lineRun (fresh m′) L .sheet) lines .bytes
 unfolding lineRun callRun startRun settle
-line-alike lines m m′ e h (line.Start capacity) = byBool (eqb (firstOf (startRows capacity)) 0)
-    (λ a. rw a (ap (λ (w : List ℕ). lineRun (fresh m) (line.Start capacity) .bytes ++ run (record { table = some (startTable capacity); medium = w }) lines .bytes) (ap (λ (n : ℕ). replicate n blank) e)))
+line-alike lines m m′ e h (line.Start capacity) = byBool (eqb (firstOf (startRows capacity sheetSalt)) 0)
+    (λ a. rw a (ap (λ (w : List ℕ). lineRun (fresh m) (line.Start capacity) .bytes ++ run (record { table = some (startTable capacity sheetSalt); medium = w }) lines .bytes) (ap (λ (n : ℕ). replicate n blank) e)))
     (λ r. rw (r, h))
 line-alike lines m m′ e h (line.Call number subject amount) = ap (λ (x : List ℕ). question ++ x) h
 line-alike lines m m′ e h line.Unreadable = ap (λ (x : List ℕ). question ++ x) h

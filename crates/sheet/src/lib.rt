@@ -22,7 +22,7 @@ pub fn run(input: &[u8], medium: &mut [u32], out: &mut [u8]) -> usize
     }
     let mut in_use = InUse {
         started: false,
-        table: table::empty(0),
+        table: table::empty(0, 0),
     };
     let mut from: usize = 0;
     let mut at: usize = 0;

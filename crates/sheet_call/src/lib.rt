@@ -59,6 +59,7 @@ fn run_by_value(
     }
     let shape = Shape {
         capacity: table.capacity,
+        salt: table.salt,
         count: table.count,
     };
     let steps = draws::steps();

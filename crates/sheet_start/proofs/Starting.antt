@@ -22,7 +22,7 @@ use Rattle.servers.proofs.Starts.{start-number}
 use Rattle.letters.specs.Letter.{startLetter}
 use Rattle.printing.specs.Print.{printed}
 use Rattle.sheet_start.specs.declared.InUse.{InUse}
-use Rattle.sheet_start.specs.SheetStart.{Sheet, Done, sheetOf, startRun}
+use Rattle.sheet_start.specs.SheetStart.{Sheet, Done, sheetOf, startRun, sheetSalt}
 
 -- the first i words blank, the others as lent
 pub blanked : List ℕ → ℕ → List ℕ
@@ -49,18 +49,18 @@ pub shown : (d : Done) {bytes : List ℕ} {s : Sheet} → d ≡ record { bytes =
 shown d e out out′ at next s′ n b k = rw e (n, (b, k))
 
 -- a start, by its reply: refused and accepted
-module _ (u : InUse) (m : List ℕ) (capacity : ℕ) (r x : Reply) (e : r ≡ x) (f : x ≡ startReply capacity) where
-  number : r .refusal ≡ firstOf (startRows capacity)
-  number = ap (λ (y : Reply). y .refusal) (e ∙ f) ∙ start-number capacity
+module _ (u : InUse) (m : List ℕ) (capacity : ℕ) (r x : Reply) (e : r ≡ x) (f : x ≡ startReply capacity sheetSalt) where
+  number : r .refusal ≡ firstOf (startRows capacity sheetSalt)
+  number = ap (λ (y : Reply). y .refusal) (e ∙ f) ∙ start-number capacity sheetSalt
 
-  bytes : printed startLetter (startReply capacity .refusal) 0 0 ≡ printed startLetter (r .refusal) 0 0
+  bytes : printed startLetter (startReply capacity sheetSalt .refusal) 0 0 ≡ printed startLetter (r .refusal) 0 0
   bytes = ap (λ (y : Reply). printed startLetter (y .refusal) 0 0) (sym (e ∙ f))
 
   pub start-refused : r .refusal ≢ 0 → startRun (sheetOf u m) capacity ≡ record { bytes = printed startLetter (r .refusal) 0 0; sheet = sheetOf u m }
   unfolding startRun
-  start-refused n = rw (bytes, settle-no (startRows capacity) _ _ (λ z. n (number ∙ z)))
+  start-refused n = rw (bytes, settle-no (startRows capacity sheetSalt) _ _ (λ z. n (number ∙ z)))
 
-  pub start-accepted : r .refusal ≡ 0 → (t : Table) (m′ : List ℕ) → t ≡ startTable capacity → m′ ≡ replicate (length m) blank
+  pub start-accepted : r .refusal ≡ 0 → (t : Table) (m′ : List ℕ) → t ≡ startTable capacity sheetSalt → m′ ≡ replicate (length m) blank
       → startRun (sheetOf u m) capacity ≡ record { bytes = printed startLetter (r .refusal) 0 0; sheet = record { table = some t; medium = m′ } }
   unfolding startRun sheetOf
-  start-accepted z t m′ et em = rw (bytes, settle-yes (startRows capacity) _ _ (sym number ∙ z), et, em)
+  start-accepted z t m′ et em = rw (bytes, settle-yes (startRows capacity sheetSalt) _ _ (sym number ∙ z), et, em)

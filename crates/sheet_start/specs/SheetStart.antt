@@ -1,4 +1,4 @@
--- A sheet, and a start on it (document 01, "The program"): what it prints, and the table in use and the medium after it.
+-- A sheet, and a start on it (document 01, "The program", and document 02, item 4): what it prints, and the table in use and the medium after it.
 use Prim.Native.Nat.{ℕ}
 use mathlib.Core.Bool.{cond}
 use mathlib.Core.List.{List}
@@ -27,9 +27,13 @@ pub record Done : Type 0 where
   pub bytes : List ℕ
   pub sheet : Sheet
 
+-- the salt of every table of a sheet: daysheet uses key 0
+abbrev pub sheetSalt : ℕ
+sheetSalt = 0
+
 -- an accepted S starts a table and blanks the words; a refused one keeps the table in use
 unfoldable pub startRun : Sheet → ℕ → Done
 startRun s capacity = record {
-  bytes = printed startLetter (startReply capacity .refusal) 0 0;
-  sheet = settle (startRows capacity) (record { table = some (startTable capacity); medium = replicate (length (s .medium)) blank }) s;
+  bytes = printed startLetter (startReply capacity sheetSalt .refusal) 0 0;
+  sheet = settle (startRows capacity sheetSalt) (record { table = some (startTable capacity sheetSalt); medium = replicate (length (s .medium)) blank }) s;
 }

@@ -9,6 +9,9 @@ ghost use Rattle.printing.specs.Print.{longestLine};
 ghost use Rattle.sheet_start.specs.SheetStart.{sheetOf, startRun};
 use table::Table;
 
+// The salt of every table of a sheet.
+const SALT: u32 = 0;
+
 // The table in use, once a start was accepted; before that the table counts for nothing.
 pub struct InUse {
     pub started: bool,
@@ -45,7 +48,7 @@ pub fn run_start(
     ensures bytes { λ _. ⌜ now (out .exit) ≡ sets (now (out .entry)) at (startRun (sheetOf in_use (now (medium .entry))) capacity .bytes) ⌝ }
     ensures sheet { λ r. ⌜ sheetOf (r .in_use) (now (medium .exit)) ≡ startRun (sheetOf in_use (now (medium .entry))) capacity .sheet ⌝ }
 {
-    let begun = servers::start(capacity);
+    let begun = servers::start(capacity, SALT);
     let answer = begun.answer;
     let reply = replies::start_reply(answer);
     let next = printing::put_answer(out, at, letters::START, reply.refusal, 0, 0);

@@ -12,6 +12,7 @@ use Rattle.table.proofs.Soundness.{Sound, server-same, sound-facts, fac
 -- what is at the count and above may differ
 pub record AgreeBelow (t u : Table) : Type 0 where
   pub capacity : t .capacity ≡ u .capacity
+  pub salt : t .salt ≡ u .salt
   pub count : t .count ≡ u .count
   pub weight : (k : ℕ) → k < t .count → weightOf t k ≡ weightOf u k
   pub used : (k : ℕ) → k < t .count → usedOf t k ≡ usedOf u k
@@ -20,6 +21,7 @@ pub record AgreeBelow (t u : Table) : Type 0 where
 agree-sym : (t u : Table) → AgreeBelow t u → AgreeBelow u t
 agree-sym t u g = record {
   capacity = sym (g .capacity);
+  salt = sym (g .salt);
   count = sym (g .count);
   weight = λ k l. sym (g .weight k (omega arith));
   used = λ k l. sym (g .used k (omega arith));
@@ -31,6 +33,7 @@ carry : (t u : Table) → AgreeBelow u t → Sound t → Sound u
 carry t u g s = record {
   low = omega arith;
   high = omega arith;
+  salted = omega arith;
   few = omega arith;
   server = λ k l. server-same t u k (g .capacity) (λ i m. g .weight i (omega arith)) (g .used k l) (g .read k l) (s .server k (omega arith));
 }

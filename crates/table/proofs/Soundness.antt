@@ -5,7 +5,7 @@ use mathlib.Core.Path.{_≡_, refl, ap₂, _∙_}
 use mathlib.Core.Bool.{true, false}
 use native.Mathlib.Omega.{arith}
 use lib.ListN.{length}
-use borrow.Author.Tests.{leb-true, le-leb}
+use borrow.Author.Tests.{leb-true, le-leb, ltb-true, lt-ltb}
 use Rattle.lists.specs.Below.{allBelow}
 use Rattle.lists.proofs.Tests.{byBool, true-not-false, and-l, and-r, and-i}
 use Rattle.lists.proofs.Below.{allBelow-in, allBelow-out}
@@ -15,7 +15,7 @@ use Rattle.placement.specs.Rule.{writeP, Bounded}
 use Rattle.placement.proofs.Rules.{writeP-cong}
 use Rattle.table.specs.declared.Table.{Table}
 use Rattle.table.specs.Parts.{weightOf, usedOf, readP, empty}
-use Rattle.table.specs.Sound.{readSound, serverSound, sound}
+use Rattle.table.specs.Sound.{inRange, readSound, serverSound, sound}
 
 -- the lengths, which the lists of the logic do not say by themselves
 pub record Arrays (t : Table) : Type 0 where
@@ -24,8 +24,8 @@ pub record Arrays (t : Table) : Type 0 where
   pub numerators : length (t .numerators) ≡ 256
   pub denominators : length (t .denominators) ≡ 256
 
-pub empty-arrays : (capacity : ℕ) → Arrays (empty capacity)
-empty-arrays capacity = record { weights = refl; used = refl; numerators = refl; denominators = refl }
+pub empty-arrays : (capacity salt : ℕ) → Arrays (empty capacity salt)
+empty-arrays capacity salt = record { weights = refl; used = refl; numerators = refl; denominators = refl }
 
 pub record SoundServer (t : Table) (k : ℕ) : Type 0 where
   pub light : weightOf t k ≤ t .capacity
@@ -38,6 +38,7 @@ pub record SoundServer (t : Table) (k : ℕ) : Type 0 where
 pub record Sound (t : Table) : Type 0 where
   pub low : 1 ≤ t .capacity
   pub high : t .capacity ≤ 65536
+  pub salted : t .salt < 1073741824
   pub few : t .count ≤ 256
   pub server : (k : ℕ) → k < t .count → SoundServer t k
 
@@ -73,22 +74,31 @@ facts-server : (t : Table) (k : ℕ) → SoundServer t k → serverSound t k ≡
 unfolding serverSound
 facts-server t k s = and-i _ _ (le-leb _ _ (s .light)) (and-i _ _ (le-leb _ _ (s .fits)) (read-part t k s))
 
+pub range-high : (capacity salt : ℕ) → inRange capacity salt ≡ true → capacity ≤ 65536
+unfolding inRange
+range-high capacity salt e = leb-true capacity 65536 (search (and-l, and-r))
+
 pub sound-facts : (t : Table) → sound t ≡ true → Sound t
-unfolding sound
+unfolding sound inRange
 sound-facts t e = record {
   low = leb-true 1 (t .capacity) (search and-l);
-  high = leb-true (t .capacity) 65536 (search (and-l, and-r));
+  high = range-high (t .capacity) (t .salt) (search and-l);
+  salted = ltb-true (t .salt) 1073741824 (search (and-l, and-r));
   few = leb-true (t .count) 256 (search (and-l, and-r));
   server = λ k l. server-facts t k (allBelow-out (serverSound t) (t .count) (search (and-l, and-r)) k l);
 }
 
 -- as a loop over the servers shows it
-pub tested-sound : (t : Table) → 1 ≤ t .capacity → t .capacity ≤ 65536 → t .count ≤ 256 → allBelow (serverSound t) (t .count) ≡ true → sound t ≡ true
+pub tested-sound : (t : Table) → inRange (t .capacity) (t .salt) ≡ true → t .count ≤ 256 → allBelow (serverSound t) (t .count) ≡ true → sound t ≡ true
 unfolding sound
-tested-sound t a b c d = and-i _ _ (le-leb _ _ a) (and-i _ _ (le-leb _ _ b) (and-i _ _ (le-leb _ _ c) d))
+tested-sound t a b c = and-i _ _ a (and-i _ _ (le-leb _ _ b) c)
 
 pub facts-sound : (t : Table) → Sound t → sound t ≡ true
-facts-sound t s = tested-sound t (s .low) (s .high) (s .few) (allBelow-in (serverSound t) (t .count) (λ k l. facts-server t k (s .server k l)))
+unfolding inRange
+facts-sound t s = tested-sound t
+    (and-i _ _ (le-leb _ _ (s .low)) (and-i _ _ (le-leb _ _ (s .high)) (lt-ltb _ _ (s .salted))))
+    (s .few)
+    (allBelow-in (serverSound t) (t .count) (λ k l. facts-server t k (s .server k l)))
 
 -- one server that is not sound
 pub server-unsound : (t : Table) (k : ℕ) → k < t .count → serverSound t k ≡ false → sound t ≡ false
@@ -98,8 +108,9 @@ server-unsound t k l e = byBool (sound t) (λ d. absurd (true-not-false (facts-s
 pub sound-bounded : (t : Table) → length (t .weights) ≡ 256 → Sound t → Bounded (t .weights) (t .count)
 sound-bounded t a s = record { few = s .few; each = omega (arith, s .few); light = λ k l. omega (arith, s .server k l .light, s .high) }
 
-pub empty-sound : (capacity : ℕ) → 1 ≤ capacity → capacity ≤ 65536 → sound (empty capacity) ≡ true
-empty-sound capacity a b = facts-sound (empty capacity) (record { low = a; high = b; few = omega arith; server = λ k l. absurd (omega arith) })
+pub empty-sound : (capacity salt : ℕ) → inRange capacity salt ≡ true → sound (empty capacity salt) ≡ true
+unfolding allBelow
+empty-sound capacity salt r = tested-sound (empty capacity salt) r (omega arith) refl
 
 -- a server is as sound in another table that has the same there, and the same weights up to there
 pub server-same : (t u : Table) (k : ℕ) → u .capacity ≡ t .capacity → ((i : ℕ) → i ≤ k → weightOf u i ≡ weightOf t i) → usedOf u k ≡ usedOf t k → readP u k ≡ readP t k → SoundServer t k → SoundServer u k

@@ -14,11 +14,12 @@ use Rattle.table.specs.declared.Table.{Table}
 use Rattle.table.specs.declared.Shape.{Shape}
 
 abbrev pub shapeOf : Table → Shape
-shapeOf t = record { capacity = t .capacity; count = t .count }
+shapeOf t = record { capacity = t .capacity; salt = t .salt; count = t .count }
 
 abbrev pub tableBy : Shape → List ℕ → List ℕ → List ℕ → List ℕ → Table
 tableBy shape weights used numerators denominators = record {
   capacity = shape .capacity;
+  salt = shape .salt;
   count = shape .count;
   weights = weights;
   used = used;
@@ -45,8 +46,8 @@ pub record Whole (columns : List (RefT (List ℕ))) : Type 0 where
 abbrev pub zeros : List ℕ
 zeros = replicate maxServers 0
 
-abbrev pub empty : ℕ → Table
-empty capacity = tableBy (record { capacity = capacity; count = 0 }) zeros zeros zeros zeros
+abbrev pub empty : ℕ → ℕ → Table
+empty capacity salt = tableBy (record { capacity = capacity; salt = salt; count = 0 }) zeros zeros zeros zeros
 
 -- the entries of each server
 abbrev pub entriesOf : Table → ℕ
@@ -62,6 +63,6 @@ usedOf t k = nth (t .used) k
 abbrev pub readP : Table → ℕ → Fraction
 readP t k = record { num = nth (t .numerators) k; den = nth (t .denominators) k }
 
--- server k is read for an id: its ReadP exceeds its draw
+-- server k is read for an id: its ReadP exceeds its draw under the table's salt
 abbrev pub reads : Table → ℕ → ℕ → Bool
-reads t id k = readable (readP t) id k
+reads t id k = readable (readP t) (t .salt) id k

@@ -1,14 +1,21 @@
--- When a table is sound (document 01, "The table"), for arbitrary bits. Only positions below the count are read.
+-- When a table is sound (document 01, "The table", and document 02, item 4), for arbitrary bits. Only positions below the count are read.
 use Prim.Native.Nat.{ℕ}
 use mathlib.Core.Bool.{Bool, _&&_}
-use lib.Dec.{leb}
-use Rattle.limits.specs.Limits.{maxServers, maxCapacity, maxSum}
+use lib.Dec.{leb, ltb}
+use Rattle.limits.specs.Limits.{maxServers, maxCapacity, maxSum, contentRange}
 use Rattle.lists.specs.Below.{allBelow}
 use Rattle.placement.specs.declared.Fraction.{Fraction}
 use Rattle.placement.specs.Fraction.{atLeast}
 use Rattle.placement.specs.Rule.{writeP}
 use Rattle.table.specs.declared.Table.{Table}
 use Rattle.table.specs.Parts.{entriesOf, weightOf, usedOf, readP}
+
+-- capacity and salt, which a start sets for good, are in range
+unfoldable pub inRange : ℕ → ℕ → Bool
+inRange capacity salt =
+    leb 1 capacity
+    && (leb capacity maxCapacity
+    && ltb salt contentRange)
 
 -- ReadP is in range and at least WriteP
 unfoldable pub readSound : Fraction → Fraction → Bool
@@ -26,7 +33,6 @@ serverSound t k =
 
 unfoldable pub sound : Table → Bool
 sound t =
-    leb 1 (t .capacity)
-    && (leb (t .capacity) maxCapacity
+    inRange (t .capacity) (t .salt)
     && (leb (t .count) maxServers
-    && allBelow (serverSound t) (t .count)))
+    && allBelow (serverSound t) (t .count))

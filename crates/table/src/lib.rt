@@ -2,17 +2,20 @@
 ghost use mathlib.Core.Path.{_≡_};
 ghost use Rattle.placement.specs.Rule.{shareOf};
 ghost use Rattle.table.specs.Parts.{tableOf, Whole, empty};
-ghost use Rattle.table.specs.Sound.{readSound, sound};
+ghost use Rattle.table.specs.Sound.{inRange, readSound, sound};
+use limits::CONTENT_RANGE;
 use limits::Column;
 use limits::MAX_CAPACITY;
 use limits::MAX_SERVERS;
 use limits::MAX_SUM;
 use placement::Fraction;
 
-// Document 01's table: capacity is its E, the entries of a server; count its count of fitted shelves; the four arrays
-// have for each server its weight, the entries used, and ReadP as a pair. Positions at or above the count mean nothing.
+// Document 01's table: capacity is its E, the entries of a server; salt document 02's rack key; count the count of fitted shelves;
+// the four arrays have for each server its weight, the entries used, and ReadP as a pair. Positions at or above the count mean
+// nothing.
 pub struct Table {
     pub capacity: u32,
+    pub salt: u32,
     pub count: usize,
     pub weights: Column,
     pub used: Column,
@@ -27,21 +30,36 @@ pub type Columns<'a> = [&'a [u32]; 4];
 // The numbers that a table has once, and not for each server.
 pub struct Shape {
     pub capacity: u32,
+    pub salt: u32,
     pub count: usize,
 }
 
 // A table of no server.
-pub fn empty(capacity: u32) -> Table
-    ensures { λ r. ⌜ r ≡ empty capacity ⌝ }
+pub fn empty(capacity: u32, salt: u32) -> Table
+    ensures { λ r. ⌜ r ≡ empty capacity salt ⌝ }
 {
     Table {
         capacity,
+        salt,
         count: 0,
         weights: [0; MAX_SERVERS],
         used: [0; MAX_SERVERS],
         numerators: [0; MAX_SERVERS],
         denominators: [0; MAX_SERVERS],
     }
+}
+
+// Whether a capacity and a salt are in range.
+pub fn in_range(capacity: u32, salt: u32) -> bool
+    ensures { λ r. ⌜ r ≡ inRange capacity salt ⌝ }
+{
+    if capacity < 1 {
+        return false;
+    }
+    if capacity > MAX_CAPACITY {
+        return false;
+    }
+    salt < CONTENT_RANGE
 }
 
 // Whether a ReadP is in range and at least WriteP of a server with this weight, `sum` being the weights of the servers up to it.
@@ -66,15 +84,13 @@ pub fn is_sound<'a>(shape: Shape, columns: Columns<'a>) -> bool
     ensures { λ r. ⌜ r ≡ sound (tableOf shape (columns .entry)) ⌝ }
 {
     let capacity = shape.capacity;
+    let salt = shape.salt;
     let count = shape.count;
     let weights = columns[0];
     let used = columns[1];
     let numerators = columns[2];
     let denominators = columns[3];
-    if capacity < 1 {
-        return false;
-    }
-    if capacity > MAX_CAPACITY {
+    if !in_range(capacity, salt) {
         return false;
     }
     if count > MAX_SERVERS {

@@ -12,7 +12,7 @@ use Rattle.lists.specs.Array.{arrayAt}
 use Rattle.table.specs.declared.Table.{Table}
 use Rattle.table.specs.Parts.{tableBy}
 use Rattle.table.proofs.Soundness.{Arrays}
-use Rattle.table_words.specs.Words.{capacityOffset, countOffset, weightsOffset, usedOffset, numeratorsOffset, denominatorsOffset, tableLength, tableFrom, wordsOf, withTable}
+use Rattle.table_words.specs.Words.{capacityOffset, saltOffset, countOffset, weightsOffset, usedOffset, numeratorsOffset, denominatorsOffset, tableLength, tableFrom, wordsOf, withTable}
 
 -- an array of 256 words has no zeros after them
 whole : (words : List ℕ) (from : ℕ) → arrayAt words from 256 ≡ take 256 (drop from words)
@@ -21,7 +21,7 @@ whole words from = append-nil (take 256 (drop from words))
 
 pub read-table : (words weights used numerators denominators : List ℕ)
     → weights ≡ arrayAt words weightsOffset 256 → used ≡ arrayAt words usedOffset 256 → numerators ≡ arrayAt words numeratorsOffset 256 → denominators ≡ arrayAt words denominatorsOffset 256
-    → tableBy (record { capacity = nth words capacityOffset; count = nth words countOffset }) weights used numerators denominators ≡ tableFrom words
+    → tableBy (record { capacity = nth words capacityOffset; salt = nth words saltOffset; count = nth words countOffset }) weights used numerators denominators ≡ tableFrom words
 unfolding tableFrom
 read-table words weights used numerators denominators a b c d = rw (a, b, c, d, whole words weightsOffset, whole words usedOffset, whole words numeratorsOffset, whole words denominatorsOffset)
 
@@ -41,13 +41,13 @@ front-more w x words words′ a n f l e = record {
 
 -- the whole table
 pub stored-table : (w : List ℕ) (t : Table) (w₁ w₂ w₃ w₄ : List ℕ) → tableLength ≤ length w → Arrays t
-    → w₁ ≡ paste (set (set w capacityOffset (t .capacity)) countOffset (t .count)) weightsOffset (t .weights) 256
+    → w₁ ≡ paste (set (set (set w capacityOffset (t .capacity)) saltOffset (t .salt)) countOffset (t .count)) weightsOffset (t .weights) 256
     → w₂ ≡ paste w₁ usedOffset (t .used) 256 → w₃ ≡ paste w₂ numeratorsOffset (t .numerators) 256 → w₄ ≡ paste w₃ denominatorsOffset (t .denominators) 256
     → w₄ ≡ withTable w t
 unfolding withTable wordsOf
 stored-table w t w₁ w₂ w₃ w₄ l a e₁ e₂ e₃ e₄ =
-    let words : List ℕ = t .capacity ∷ t .count ∷ [] in
-    let f₀ : Front w words (set (set w capacityOffset (t .capacity)) countOffset (t .count)) weightsOffset = record { long = refl; front = sets-eq words w 0 (omega arith) } in
+    let words : List ℕ = t .capacity ∷ t .salt ∷ t .count ∷ [] in
+    let f₀ : Front w words (set (set (set w capacityOffset (t .capacity)) saltOffset (t .salt)) countOffset (t .count)) weightsOffset = record { long = refl; front = sets-eq words w 0 (omega arith) } in
     let f₁ = front-more w words _ w₁ (t .weights) weightsOffset f₀ (a .weights) e₁ in
     let f₂ = front-more w _ w₁ w₂ (t .used) usedOffset f₁ (a .used) e₂ in
     let f₃ = front-more w _ w₂ w₃ (t .numerators) numeratorsOffset f₂ (a .numerators) e₃ in
@@ -64,7 +64,7 @@ stored-lent words t l a =
     let r₃ : List ℕ = t .denominators ++ drop tableLength words in
     let r₂ : List ℕ = t .numerators ++ r₃ in
     let r₁ : List ℕ = t .used ++ r₂ in
-    let flat : withTable words t ≡ t .capacity ∷ t .count ∷ (t .weights ++ r₁) = rw (le-ltb (length words) tableLength l) (simp append-assoc) in
+    let flat : withTable words t ≡ t .capacity ∷ t .salt ∷ t .count ∷ (t .weights ++ r₁) = rw (le-ltb (length words) tableLength l) (simp append-assoc) in
     rw flat (rw (
       skip (t .weights) r₁ 0 (a .weights),
       skip (t .weights) r₁ 256 (a .weights),

@@ -1,11 +1,12 @@
--- A table lent as words, the layout by which other programs hand one over. It has 1,026 words:
+-- A table lent as words, the layout by which other programs hand one over. It has 1,027 words:
 --
 --   word   0              capacity
---   word   1              count
---   words  2 to  257      weights
---   words  258 to  513    used
---   words  514 to  769    numerators
---   words  770 to 1025    denominators
+--   word   1              salt
+--   word   2              count
+--   words  3 to  258      weights
+--   words  259 to  514    used
+--   words  515 to  770    numerators
+--   words  771 to 1026    denominators
 use Prim.Native.Nat.{ℕ}
 use mathlib.Core.Bool.{cond}
 use mathlib.Core.List.{List, [], _∷_, _++_}
@@ -20,23 +21,26 @@ use Rattle.table.specs.Parts.{tableBy}
 abbrev pub capacityOffset : ℕ
 capacityOffset = 0
 
+abbrev pub saltOffset : ℕ
+saltOffset = 1
+
 abbrev pub countOffset : ℕ
-countOffset = 1
+countOffset = 2
 
 abbrev pub weightsOffset : ℕ
-weightsOffset = 2
+weightsOffset = 3
 
 abbrev pub usedOffset : ℕ
-usedOffset = 258
+usedOffset = 259
 
 abbrev pub numeratorsOffset : ℕ
-numeratorsOffset = 514
+numeratorsOffset = 515
 
 abbrev pub denominatorsOffset : ℕ
-denominatorsOffset = 770
+denominatorsOffset = 771
 
 abbrev pub tableLength : ℕ
-tableLength = 1026
+tableLength = 1027
 
 -- the column that begins at a word
 abbrev pub columnFrom : List ℕ → ℕ → List ℕ
@@ -45,14 +49,14 @@ columnFrom words at = take maxServers (drop at words)
 unfoldable pub tableFrom : List ℕ → Table
 tableFrom words =
     tableBy
-    (record { capacity = nth words capacityOffset; count = nth words countOffset })
+    (record { capacity = nth words capacityOffset; salt = nth words saltOffset; count = nth words countOffset })
     (columnFrom words weightsOffset)
     (columnFrom words usedOffset)
     (columnFrom words numeratorsOffset)
     (columnFrom words denominatorsOffset)
 
 unfoldable pub wordsOf : Table → List ℕ
-wordsOf t = (t .capacity ∷ t .count ∷ []) ++ t .weights ++ t .used ++ t .numerators ++ t .denominators
+wordsOf t = (t .capacity ∷ t .salt ∷ t .count ∷ []) ++ t .weights ++ t .used ++ t .numerators ++ t .denominators
 
 -- the words with a table in front, and the words as lent where they are too few for one
 unfoldable pub withTable : List ℕ → Table → List ℕ

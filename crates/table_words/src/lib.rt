@@ -10,19 +10,21 @@ use limits::MAX_SERVERS;
 use table::Table;
 
 // How many words a table has, where each of its numbers stands and where each of its columns begins.
-pub const TABLE_LENGTH: usize = 1026;
+pub const TABLE_LENGTH: usize = 1027;
 
 pub const CAPACITY_OFFSET: usize = 0;
 
-pub const COUNT_OFFSET: usize = 1;
+pub const SALT_OFFSET: usize = 1;
 
-pub const WEIGHTS_OFFSET: usize = 2;
+pub const COUNT_OFFSET: usize = 2;
 
-pub const USED_OFFSET: usize = 258;
+pub const WEIGHTS_OFFSET: usize = 3;
 
-pub const NUMERATORS_OFFSET: usize = 514;
+pub const USED_OFFSET: usize = 259;
 
-pub const DENOMINATORS_OFFSET: usize = 770;
+pub const NUMERATORS_OFFSET: usize = 515;
+
+pub const DENOMINATORS_OFFSET: usize = 771;
 
 // The table lent as words.
 pub fn table_from(words: &[u32]) -> Table
@@ -32,6 +34,7 @@ pub fn table_from(words: &[u32]) -> Table
 {
     Table {
         capacity: words[CAPACITY_OFFSET],
+        salt: words[SALT_OFFSET],
         count: words[COUNT_OFFSET] as usize,
         weights: lists::array_at(words, WEIGHTS_OFFSET, MAX_SERVERS),
         used: lists::array_at(words, USED_OFFSET, MAX_SERVERS),
@@ -60,6 +63,7 @@ pub fn store_table(words: &mut [u32], table: Table)
     ensures { λ _. ⌜ now (words .exit) ≡ withTable (now (words .entry)) table ⌝ }
 {
     words[CAPACITY_OFFSET] = table.capacity;
+    words[SALT_OFFSET] = table.salt;
     words[COUNT_OFFSET] = table.count as u32;
     store_array(words, WEIGHTS_OFFSET, &table.weights);
     store_array(words, USED_OFFSET, &table.used);

@@ -25,6 +25,7 @@ agree-withServer t u weight a b l g =
     (λ n. let i : k < t .count = omega (arith, n) in c .weightOld k i ∙ g .weight k i ∙ sym (d .weightOld k (omega arith))) in
     record {
       capacity = omega arith;
+      salt = omega arith;
       count = omega arith;
       weight = λ k m. w k (omega arith);
       used = λ k m. at-or-else (λ i. usedOf x i ≡ usedOf y i) (t .count) k
@@ -49,6 +50,7 @@ agree-withWeight t u server weight a b f l g =
     (λ n. c .weightOld k n ∙ g .weight k m ∙ sym (d .weightOld k n)) in
     record {
       capacity = omega arith;
+      salt = omega arith;
       count = omega arith;
       weight = λ k m. w k (omega arith);
       used = λ k m. c .used k ∙ g .used k (omega arith) ∙ sym (d .used k);
@@ -67,6 +69,7 @@ agree-withEntry t u server a b f l g =
     let d = withEntry-is u server b (omega arith) (omega arith) in
     record {
       capacity = omega arith;
+      salt = omega arith;
       count = omega arith;
       weight = λ k m. c .weight k ∙ g .weight k (omega arith) ∙ sym (d .weight k);
       used = λ k m. at-or-else (λ i. usedOf x i ≡ usedOf y i) server k

@@ -44,6 +44,7 @@ module _ (t : Table) (weight : ℕ) (a : Arrays t) (h : sound t ≡ true) (l : t
       facts-sound u (record {
         low = omega arith;
         high = omega arith;
+        salted = omega arith;
         few = omega arith;
         server = λ k m. at-or-else (SoundServer u) (t .count) k
             (parts u (t .count)
@@ -72,6 +73,7 @@ module _ (t : Table) (server weight : ℕ) (a : Arrays t) (h : sound t ≡ true)
       facts-sound u (record {
         low = omega arith;
         high = omega arith;
+        salted = omega arith;
         few = omega arith;
         server = λ k m.
             let i : k < t .count = omega arith in
@@ -91,6 +93,7 @@ withEntry-sound t server a h l r =
     facts-sound u (record {
       low = omega arith;
       high = omega arith;
+      salted = omega arith;
       few = omega arith;
       server = λ k m.
           let o = s .server k (omega arith) in

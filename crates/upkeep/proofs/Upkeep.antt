@@ -46,6 +46,7 @@ withEntry-arrays t server a = record {
 -- u is t with one server more
 pub record ServerAdded (t : Table) (weight : ℕ) (u : Table) : Type 0 where
   pub capacity : u .capacity ≡ t .capacity
+  pub salt : u .salt ≡ t .salt
   pub count : u .count ≡ suc (t .count)
   pub weightNew : weightOf u (t .count) ≡ weight
   pub weightOld : (k : ℕ) → k < t .count → weightOf u k ≡ weightOf t k
@@ -57,6 +58,7 @@ pub record ServerAdded (t : Table) (weight : ℕ) (u : Table) : Type 0 where
 -- u is t with another weight for a server
 pub record WeightChanged (t : Table) (server weight : ℕ) (u : Table) : Type 0 where
   pub capacity : u .capacity ≡ t .capacity
+  pub salt : u .salt ≡ t .salt
   pub count : u .count ≡ t .count
   pub weightNew : weightOf u server ≡ weight
   pub weightOld : (k : ℕ) → k ≢ server → weightOf u k ≡ weightOf t k
@@ -66,6 +68,7 @@ pub record WeightChanged (t : Table) (server weight : ℕ) (u : Table) : Type 0 
 -- u is t with one entry more used on a server
 pub record EntryAdded (t : Table) (server : ℕ) (u : Table) : Type 0 where
   pub capacity : u .capacity ≡ t .capacity
+  pub salt : u .salt ≡ t .salt
   pub count : u .count ≡ t .count
   pub weight : (k : ℕ) → weightOf u k ≡ weightOf t k
   pub usedNew : usedOf u server ≡ suc (usedOf t server)
@@ -76,6 +79,7 @@ pub withServer-is : (t : Table) (weight : ℕ) → Arrays t → t .count < 256 �
 unfolding withServer
 withServer-is t weight a l = record {
   capacity = refl;
+  salt = refl;
   count = refl;
   weightNew = getD-set-same (t .weights) (t .count) _ 0 (omega (arith, a .weights));
   weightOld = λ k h. getD-set-other (t .weights) (t .count) k _ 0 (λ e. omega arith);
@@ -93,6 +97,7 @@ pub withWeight-is : (t : Table) (server weight : ℕ) → Arrays t → t .count 
 unfolding withWeight
 withWeight-is t server weight a l s = record {
   capacity = refl;
+  salt = refl;
   count = refl;
   weightNew = getD-set-same (t .weights) server _ 0 (omega (arith, a .weights));
   weightOld = λ k n. getD-set-other (t .weights) server k _ 0 n;
@@ -106,6 +111,7 @@ pub withEntry-is : (t : Table) (server : ℕ) → Arrays t → t .count ≤ 256 
 unfolding withEntry oneMore
 withEntry-is t server a l s = record {
   capacity = refl;
+  salt = refl;
   count = refl;
   weight = λ k. refl;
   usedNew = getD-set-same (t .used) server _ 0 (omega (arith, a .used));

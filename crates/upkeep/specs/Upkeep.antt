@@ -16,7 +16,7 @@ withServer t weight =
     let weights = set (t .weights) k weight in
     let write = writeP (nth weights) k in
     tableBy
-    (record { capacity = t .capacity; count = suc k })
+    (record { capacity = t .capacity; salt = t .salt; count = suc k })
     weights
     (set (t .used) k 0)
     (set (t .numerators) k (write .num))

@@ -3,16 +3,16 @@ use crate::print;
 use table::Table;
 
 pub fn start(capacity: u32) -> Table {
-    let started = servers::start(capacity);
+    let started = servers::start(capacity, 0);
     started.table
 }
 
-// Starts a table and prints refusal and capacity.
-fn start_anew(capacity: u32, text: &[u8]) -> Table {
-    let started = servers::start(capacity);
+// Starts a table and prints refusal, capacity and salt.
+fn start_anew(capacity: u32, salt: u32, text: &[u8]) -> Table {
+    let started = servers::start(capacity, salt);
     let answer = started.answer;
     let refusal = replies::check_number(answer);
-    print::two(text, refusal, started.table.capacity);
+    print::print_three(text, refusal, started.table.capacity, started.table.salt);
     started.table
 }
 
@@ -100,7 +100,7 @@ fn burn(table: Table, medium: &mut [u32], i: u32, word: u32) -> Table {
 // number of L.
 fn run_reading(table: Table, medium: &[u32], letter: u8, a: u32, b: u32, text: &[u8]) -> Table {
     match letter {
-        b'S' => return start_anew(a, text),
+        b'S' => return start_anew(a, b, text),
         b'F' => return add_server(table, medium, a, text),
         b'G' => return reweight(table, a as usize, b, text),
         b'A' => return add_servers(table, medium, a),

@@ -23,16 +23,10 @@ pub fn print_number(text: &[u8], n: u64) {
     end();
 }
 
-pub fn two(text: &[u8], a: u32, b: u32) {
+pub fn print_three(text: &[u8], a: u32, b: u32, c: u32) {
     if text.len() == 0 {
         return;
     }
-    first(text, a as u64);
-    more(b as u64);
-    end();
-}
-
-pub fn print_three(text: &[u8], a: u32, b: u32, c: u32) {
     first(text, a as u64);
     more(b as u64);
     more(c as u64);

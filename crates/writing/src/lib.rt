@@ -79,6 +79,7 @@ pub fn write(table: Table, medium: &mut [u32], tenant: u32, id: u32, value: u32)
 {
     let shape = Shape {
         capacity: table.capacity,
+        salt: table.salt,
         count: table.count,
     };
     let steps = draws::steps();

@@ -19,13 +19,13 @@ use Rattle.batch.proofs.lookup_batch.Statement.{statement}
 use Rattle.batch.proofs.lookup_batch.Tie as tie
 
 abbrev Inv-loop : tie.InvT-loop
-Inv-loop medium tenant ids table n number servers steps parts₀ mounts₀ k₀ parts mounts k = BatchFrom table medium tenant ids k parts mounts
+Inv-loop medium tenant ids table shape n number servers steps parts₀ mounts₀ k₀ parts mounts k = BatchFrom table medium tenant ids k parts mounts
 
 abbrev μ-loop : tie.MeasureT-loop
-μ-loop medium tenant ids table n number servers steps parts₀ mounts₀ k₀ parts mounts k = k
+μ-loop medium tenant ids table shape n number servers steps parts₀ mounts₀ k₀ parts mounts k = k
 
 -- the start, from the place where the columns are lent and from where the number of servers is known
-abbrev B : tie.After-t252 Inv-loop μ-loop → tie.Start Inv-loop μ-loop
+abbrev B : tie.After-t262 Inv-loop μ-loop → tie.Start Inv-loop μ-loop
 B c = c .before .before .before .before .before .before .before .before .before .before .before
 
 abbrev J : tie.Joined2 Inv-loop μ-loop → tie.Start Inv-loop μ-loop
@@ -102,11 +102,11 @@ low c = omega (arith, here c .0, here c .1 .inside .few)
 sub-k : tie.Need-sub-k Inv-loop μ-loop
 sub-k c = search needs
 
-mul-step-all : tie.Need-mul-step-all Inv-loop μ-loop
-mul-step-all c = omega (arith, low (c .before))
+mul-t36 : tie.Need-mul-t36 Inv-loop μ-loop
+mul-t36 c = omega (arith, low (c .before))
 
-element-copy-out-step-all : tie.Need-element-copy-out-step-all Inv-loop μ-loop
-element-copy-out-step-all c = omega (arith, low (c .before))
+element-copy-out-t39 : tie.Need-element-copy-out-t39 Inv-loop μ-loop
+element-copy-out-t39 c = omega (arith, low (c .before))
 
 mul-used : tie.Need-mul-used Inv-loop μ-loop
 mul-used c = omega (arith, low (c .before .before))
@@ -215,8 +215,8 @@ lookup-batch-spec =
     begin-requires
     loop-holds
     sub-k
-    mul-step-all
-    element-copy-out-step-all
+    mul-t36
+    element-copy-out-t39
     mul-used
     element-copy-out-used
     mul-used-2

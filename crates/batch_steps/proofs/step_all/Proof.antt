@@ -12,11 +12,11 @@ use Rattle.batch_steps.proofs.step_all.Statement.{statement}
 use Rattle.batch_steps.proofs.step_all.Tie as tie
 
 abbrev Inv-loop : tie.InvT-loop
-Inv-loop read steps capacity used medium ids server next₀ i₀ next i =
-    (i ≤ length ids) × (next ≡ withParts (steppedAt read capacity used medium ids server next₀) i next₀)
+Inv-loop read steps shape used medium ids server next₀ i₀ next i =
+    (i ≤ length ids) × (next ≡ withParts (steppedAt read shape used medium ids server next₀) i next₀)
 
 abbrev μ-loop : tie.MeasureT-loop
-μ-loop read steps capacity used medium ids server next₀ i₀ next i = length ids - i
+μ-loop read steps shape used medium ids server next₀ i₀ next i = length ids - i
 
 loop-holds : tie.Need-loop-holds Inv-loop μ-loop
 unfolding withParts setBelow

@@ -11,44 +11,47 @@ shared-slice-read-t11 c = search needs
 shared-slice-read-t13 : tie.Need-shared-slice-read-t13
 shared-slice-read-t13 c = search needs
 
-cast-t14 : tie.Need-cast-t14
-cast-t14 c = omega (arith, c .shared-slice-known4 .given 1)
+shared-slice-read-t15 : tie.Need-shared-slice-read-t15
+shared-slice-read-t15 c = search needs
 
-sub-t14 : tie.Need-sub-t14
-sub-t14 c = search needs
+cast-t16 : tie.Need-cast-t16
+cast-t16 c = omega (arith, c .shared-slice-known5 .given 2)
 
-part-t16-start : tie.Need-part-t16-start
-part-t16-start c = search needs
+sub-t16 : tie.Need-sub-t16
+sub-t16 c = search needs
 
-part-t16-end : tie.Need-part-t16-end
-part-t16-end c = search needs
+part-t18-start : tie.Need-part-t18-start
+part-t18-start c = search needs
 
-sub-t19 : tie.Need-sub-t19
-sub-t19 c = search needs
+part-t18-end : tie.Need-part-t18-end
+part-t18-end c = search needs
 
-part-t20-start : tie.Need-part-t20-start
-part-t20-start c = search needs
+sub-t21 : tie.Need-sub-t21
+sub-t21 c = search needs
 
-part-t20-end : tie.Need-part-t20-end
-part-t20-end c = search needs
+part-t22-start : tie.Need-part-t22-start
+part-t22-start c = search needs
 
-sub-t23 : tie.Need-sub-t23
-sub-t23 c = search needs
+part-t22-end : tie.Need-part-t22-end
+part-t22-end c = search needs
 
-part-t24-start : tie.Need-part-t24-start
-part-t24-start c = search needs
+sub-t25 : tie.Need-sub-t25
+sub-t25 c = search needs
 
-part-t24-end : tie.Need-part-t24-end
-part-t24-end c = search needs
+part-t26-start : tie.Need-part-t26-start
+part-t26-start c = search needs
 
-sub-t27 : tie.Need-sub-t27
-sub-t27 c = search needs
+part-t26-end : tie.Need-part-t26-end
+part-t26-end c = search needs
 
-part-t28-start : tie.Need-part-t28-start
-part-t28-start c = search needs
+sub-t29 : tie.Need-sub-t29
+sub-t29 c = search needs
 
-part-t28-end : tie.Need-part-t28-end
-part-t28-end c = search needs
+part-t30-start : tie.Need-part-t30-start
+part-t30-start c = search needs
+
+part-t30-end : tie.Need-part-t30-end
+part-t30-end c = search needs
 
 run-in-requires : tie.Need-run-in-requires
 run-in-requires c κs = search needs
@@ -66,19 +69,20 @@ run-on-spec =
     (tie.spec
     shared-slice-read-t11
     shared-slice-read-t13
-    cast-t14
-    sub-t14
-    part-t16-start
-    part-t16-end
-    sub-t19
-    part-t20-start
-    part-t20-end
-    sub-t23
-    part-t24-start
-    part-t24-end
-    sub-t27
-    part-t28-start
-    part-t28-end
+    shared-slice-read-t15
+    cast-t16
+    sub-t16
+    part-t18-start
+    part-t18-end
+    sub-t21
+    part-t22-start
+    part-t22-end
+    sub-t25
+    part-t26-start
+    part-t26-end
+    sub-t29
+    part-t30-start
+    part-t30-end
     run-in-requires
     same-length
     returns)

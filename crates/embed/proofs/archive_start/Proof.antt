@@ -7,7 +7,7 @@ use Rattle.embed.proofs.archive_start.Statement.{statement}
 use Rattle.embed.proofs.archive_start.Tie as tie
 
 returns : tie.Need-returns
-returns c = let a = c .before .before .args in start-short (a .capacity) (a .table .now) (c .if1 .taken)
+returns c = let a = c .before .before .args in start-short (a .capacity) (a .salt) (a .table .now) (c .if1 .taken)
 
 start-requires : tie.Need-start-requires
 start-requires c κs = search needs
@@ -18,7 +18,7 @@ start-reply-requires c κs = search needs
 store-table-requires : tie.Need-store-table-requires
 store-table-requires c κs =
     let s = c .before .before in
-    (s .before .if1 .left, start-count _ _ (s .start .ensures .1))
+    (s .before .if1 .left, start-count _ _ _ (s .start .ensures .1))
 
 same-length : tie.Need-same-length
 same-length c = search needs
@@ -29,7 +29,7 @@ returns-2 c =
     let r = w .before .before in
     let s = r .before in
     let a = s .before .before .before .args in
-    start-stored (a .capacity) (a .table .now) (s .before .if1 .left) _ _ _ (r .start-reply .ensures ∙ s .start .ensures .0) (s .start .ensures .1) (w .store-table .ensures)
+    start-stored (a .capacity) (a .salt) (a .table .now) (s .before .if1 .left) _ _ _ (r .start-reply .ensures ∙ s .start .ensures .0) (s .start .ensures .1) (w .store-table .ensures)
 
 pub archive-start-spec : {M : Type 1} → statement M
 archive-start-spec =

@@ -19,12 +19,12 @@ abbrev passes : Table → ℕ → ℕ → ℕ → Bool
 passes t id from k = leb from k && reads t id k
 
 abbrev Inv-loop : tie.InvT-loop
-Inv-loop medium₀ t3 steps id from content capacity count used numerators denominators entries n₀ k₀ medium n k =
-    let t = tableOf (record { capacity = capacity; count = count }) t3 in
+Inv-loop medium₀ t3 steps id from content capacity salt count used numerators denominators entries n₀ k₀ medium n k =
+    let t = tableOf (record { capacity = capacity; salt = salt; count = count }) t3 in
     Left capacity count (usedOf t) medium₀ id (passes t id from) content k medium n
 
 abbrev μ-loop : tie.MeasureT-loop
-μ-loop medium₀ t3 steps id from content capacity count used numerators denominators entries n₀ k₀ medium n k = k
+μ-loop medium₀ t3 steps id from content capacity salt count used numerators denominators entries n₀ k₀ medium n k = k
 
 -- the start, and the loop's head
 abbrev S : tie.At-loop Inv-loop μ-loop → tie.Start Inv-loop μ-loop
@@ -60,17 +60,17 @@ loop-holds c = search needs
 sub-k : tie.Need-sub-k Inv-loop μ-loop
 sub-k c = search needs
 
-mul-t26 : tie.Need-mul-t26 Inv-loop μ-loop
-mul-t26 c = search needs
+mul-t27 : tie.Need-mul-t27 Inv-loop μ-loop
+mul-t27 c = search needs
 
-shared-slice-read-t28 : tie.Need-shared-slice-read-t28 Inv-loop μ-loop
-shared-slice-read-t28 c = search needs
+shared-slice-read-t29 : tie.Need-shared-slice-read-t29 Inv-loop μ-loop
+shared-slice-read-t29 c = search needs
 
-mul-t29 : tie.Need-mul-t29 Inv-loop μ-loop
-mul-t29 c = search needs
+mul-t30 : tie.Need-mul-t30 Inv-loop μ-loop
+mul-t30 c = search needs
 
-shared-slice-read-t31 : tie.Need-shared-slice-read-t31 Inv-loop μ-loop
-shared-slice-read-t31 c = search needs
+shared-slice-read-t32 : tie.Need-shared-slice-read-t32 Inv-loop μ-loop
+shared-slice-read-t32 c = search needs
 
 takes-requires : tie.Need-takes-requires Inv-loop μ-loop
 takes-requires c κs = search needs
@@ -135,10 +135,10 @@ invalidate-spec =
     cast-entries
     loop-holds
     sub-k
-    mul-t26
-    shared-slice-read-t28
-    mul-t29
-    shared-slice-read-t31
+    mul-t27
+    shared-slice-read-t29
+    mul-t30
+    shared-slice-read-t32
     takes-requires
     mul-invalidate-server
     shared-slice-read-invalidate-server

@@ -15,12 +15,12 @@ use Rattle.placement.proofs.write_server.Statement.{statement}
 use Rattle.placement.proofs.write_server.Tie as tie
 
 abbrev Inv-loop : tie.InvT-loop
-Inv-loop weights steps count id sum₀ k₀ sum k =
+Inv-loop weights steps count salt id sum₀ k₀ sum k =
     (k ≤ 256) × (k ≤ length weights) × (sum ≡ total (nth weights) k)
-    × (writeServer (nth weights) count id ≡ orZero (highest (takes modulus (drawOf id) (writeP (nth weights))) k))
+    × (writeServer (nth weights) count salt id ≡ orZero (highest (takes modulus (drawOf salt id) (writeP (nth weights))) k))
 
 abbrev μ-loop : tie.MeasureT-loop
-μ-loop weights steps count id sum₀ k₀ sum k = k
+μ-loop weights steps count salt id sum₀ k₀ sum k = k
 
 sum-weights-requires : tie.Need-sum-weights-requires Inv-loop μ-loop
 sum-weights-requires c κs = search needs
@@ -53,17 +53,17 @@ W l = nth (S l .args .weights .now)
 
 -- the server that the loop stands at takes the id
 takes-here : (c : tie.After-takes Inv-loop μ-loop)
-    → takes modulus (drawOf (S (L c) .args .id)) (writeP (W (L c))) (L c .loop .k - 1) ≡ c .takes .result
+    → takes modulus (drawOf (S (L c) .args .salt) (S (L c) .args .id)) (writeP (W (L c))) (L c .loop .k - 1) ≡ c .takes .result
 takes-here c =
     let l = L c in
-    takes-last modulus (drawOf (S l .args .id)) (W l) (l .loop .k) (search needs) ∙ cc
+    takes-last modulus (drawOf (S l .args .salt) (S l .args .id)) (W l) (l .loop .k) (search needs) ∙ cc
 
 rest : (c : tie.After-takes Inv-loop μ-loop) (b : Bool) → c .takes .result ≡ b
-    → writeServer (W (L c)) (S (L c) .args .count) (S (L c) .args .id)
-    ≡ orZero (cond b (some (L c .loop .k - 1)) (highest (takes modulus (drawOf (S (L c) .args .id)) (writeP (W (L c)))) (L c .loop .k - 1)))
+    → writeServer (W (L c)) (S (L c) .args .count) (S (L c) .args .salt) (S (L c) .args .id)
+    ≡ orZero (cond b (some (L c .loop .k - 1)) (highest (takes modulus (drawOf (S (L c) .args .salt) (S (L c) .args .id)) (writeP (W (L c)))) (L c .loop .k - 1)))
 rest c b e =
     let l = L c in
-    l .loop .inv .3 ∙ ap orZero (highest-last (takes modulus (drawOf (S l .args .id)) (writeP (W l))) (l .loop .k) b (search needs) (takes-here c ∙ e))
+    l .loop .inv .3 ∙ ap orZero (highest-last (takes modulus (drawOf (S l .args .salt) (S l .args .id)) (writeP (W l))) (l .loop .k) b (search needs) (takes-here c ∙ e))
 
 returns : tie.Need-returns Inv-loop μ-loop
 unfolding orZero

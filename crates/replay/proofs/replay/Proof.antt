@@ -26,7 +26,7 @@ returns : tie.Need-returns
 returns c =
     let b = c .before .before in
     let a = S b .args in
-    refused-run (a .capacity) (a .medium .now) (a .calls .now) (a .replies .now) (start-refused (a .capacity) (b .start .ensures .0) (c .enum-told .given .1))
+    refused-run (a .capacity) (a .salt) (a .medium .now) (a .calls .now) (a .replies .now) (start-refused (a .capacity) (a .salt) (b .start .ensures .0) (c .enum-told .given .1))
 
 enum-told-2 : tie.Need-enum-told-2
 enum-told-2 c = search needs
@@ -48,7 +48,7 @@ store-table-requires : tie.Need-store-table-requires
 store-table-requires c κs =
     let w = c .before in
     let b = B w in
-    (long w, start-count (S b .args .capacity) _ (b .start .ensures .1))
+    (long w, start-count (S b .args .capacity) (S b .args .salt) _ (b .start .ensures .1))
 
 steps-requires : tie.Need-steps-requires
 steps-requires c κs = search needs
@@ -76,9 +76,9 @@ returns-2 c =
     let n = w .before in
     let b = B w in
     let a = S b .args in
-    let s = started-words (a .capacity) (a .medium .now) _ _ _ (long w) (b .start .ensures .1) (t .store-table .ensures) in
-    all-run (a .capacity) (a .medium .now) (a .calls .now) (a .replies .now) (n .room .result) _ _ _
-    (start-accepted (a .capacity) (b .start .ensures .0) (n .before .enum-told2 .given .1))
+    let s = started-words (a .capacity) (a .salt) (a .medium .now) _ _ _ (long w) (b .start .ensures .1) (t .store-table .ensures) in
+    all-run (a .capacity) (a .salt) (a .medium .now) (a .calls .now) (a .replies .now) (n .room .result) _ _ _
+    (start-accepted (a .capacity) (a .salt) (b .start .ensures .0) (n .before .enum-told2 .given .1))
     (n .room .ensures) (s .0) (r .run-calls .ensures .1 .0) (r .run-calls .ensures .1 .1)
 
 pub replay-spec : {M : Type 1} → statement M

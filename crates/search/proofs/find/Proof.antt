@@ -18,22 +18,22 @@ use Rattle.search.proofs.find.Statement.{statement}
 use Rattle.search.proofs.find.Tie as tie
 
 abbrev Inv-loop : tie.InvT-loop
-Inv-loop t2 steps medium id capacity count used numerators denominators entries met₀ opened j₀ k met j =
+Inv-loop t2 steps medium id capacity salt count used numerators denominators entries met₀ opened j₀ k met j =
     (j ≤ nth (column t2 1) k) × (met ≡ false)
-    × (let t = tableOf (record { capacity = capacity; count = count }) t2 in
+    × (let t = tableOf (record { capacity = capacity; salt = salt; count = count }) t2 in
     answerOf (searchFor t medium id) ≡ entriesLeft t medium id opened k j)
 
 abbrev μ-loop : tie.MeasureT-loop
-μ-loop t2 steps medium id capacity count used numerators denominators entries met₀ opened j₀ k met j = j
+μ-loop t2 steps medium id capacity salt count used numerators denominators entries met₀ opened j₀ k met j = j
 
 abbrev Inv-search : tie.InvT-search
-Inv-search t2 steps medium id capacity count used numerators denominators entries met₀ opened₀ j₀ k₀ met opened j k =
+Inv-search t2 steps medium id capacity salt count used numerators denominators entries met₀ opened₀ j₀ k₀ met opened j k =
     (opened + k ≤ count) × (met ≡ false)
-    × (let t = tableOf (record { capacity = capacity; count = count }) t2 in
+    × (let t = tableOf (record { capacity = capacity; salt = salt; count = count }) t2 in
     answerOf (searchFor t medium id) ≡ serversLeft t medium id opened k)
 
 abbrev μ-search : tie.MeasureT-search
-μ-search t2 steps medium id capacity count used numerators denominators entries met₀ opened₀ j₀ k₀ met opened j k = k
+μ-search t2 steps medium id capacity salt count used numerators denominators entries met₀ opened₀ j₀ k₀ met opened j k = k
 
 -- places: the start, the outer loop's head, the test of the server and the inner loop's head
 abbrev S : tie.At-search Inv-loop μ-loop Inv-search μ-search → tie.Start Inv-loop μ-loop Inv-search μ-search
@@ -80,17 +80,17 @@ search-holds c = (search needs, refl, all-left _ _ _)
 sub-k : tie.Need-sub-k Inv-loop μ-loop Inv-search μ-search
 sub-k c = search needs
 
-mul-t26 : tie.Need-mul-t26 Inv-loop μ-loop Inv-search μ-search
-mul-t26 c = search needs
+mul-t27 : tie.Need-mul-t27 Inv-loop μ-loop Inv-search μ-search
+mul-t27 c = search needs
 
-shared-slice-read-t28 : tie.Need-shared-slice-read-t28 Inv-loop μ-loop Inv-search μ-search
-shared-slice-read-t28 c = search needs
+shared-slice-read-t29 : tie.Need-shared-slice-read-t29 Inv-loop μ-loop Inv-search μ-search
+shared-slice-read-t29 c = search needs
 
-mul-t29 : tie.Need-mul-t29 Inv-loop μ-loop Inv-search μ-search
-mul-t29 c = search needs
+mul-t30 : tie.Need-mul-t30 Inv-loop μ-loop Inv-search μ-search
+mul-t30 c = search needs
 
-shared-slice-read-t31 : tie.Need-shared-slice-read-t31 Inv-loop μ-loop Inv-search μ-search
-shared-slice-read-t31 c = search needs
+shared-slice-read-t32 : tie.Need-shared-slice-read-t32 Inv-loop μ-loop Inv-search μ-search
+shared-slice-read-t32 c = search needs
 
 takes-requires : tie.Need-takes-requires Inv-loop μ-loop Inv-search μ-search
 takes-requires c κs = search needs
@@ -213,10 +213,10 @@ find-spec =
     cast-entries
     search-holds
     sub-k
-    mul-t26
-    shared-slice-read-t28
-    mul-t29
-    shared-slice-read-t31
+    mul-t27
+    shared-slice-read-t29
+    mul-t30
+    shared-slice-read-t32
     takes-requires
     add-opened
     mul-j

@@ -11,8 +11,8 @@ use Rattle.placement.specs.declared.Fraction.{Fraction}
 use Rattle.placement.specs.Rule.{shareOf, writeP}
 use Rattle.table.specs.declared.Table.{Table}
 use Rattle.table.specs.Parts.{tableOf, weightOf, usedOf, readP}
-use Rattle.table.specs.Sound.{readSound, serverSound, sound}
-use Rattle.table.proofs.Soundness.{tested-sound, server-unsound}
+use Rattle.table.specs.Sound.{inRange, readSound, serverSound, sound}
+use Rattle.table.proofs.Soundness.{range-high, tested-sound, server-unsound}
 use Rattle.table.proofs.is_sound.Statement.{statement}
 use Rattle.table.proofs.is_sound.Tie as tie
 
@@ -23,13 +23,13 @@ unfolding serverSound writeP total
 tested t k sum write b light fits s w r = rw (le-leb _ _ light, le-leb _ _ fits, ← s, ← w) (sym r)
 
 abbrev Inv-loop : tie.InvT-loop
-Inv-loop t2 capacity count weights used numerators denominators sum₀ i₀ sum i =
+Inv-loop t2 capacity salt count weights used numerators denominators sum₀ i₀ sum i =
     (i ≤ count) × (count ≤ 256) × (capacity ≤ 65536)
-    × (allBelow (serverSound (tableOf (record { capacity = capacity; count = count }) t2)) i ≡ true)
-    × (sum ≡ total (weightOf (tableOf (record { capacity = capacity; count = count }) t2)) i) × (sum ≤ 65536 * i)
+    × (allBelow (serverSound (tableOf (record { capacity = capacity; salt = salt; count = count }) t2)) i ≡ true)
+    × (sum ≡ total (weightOf (tableOf (record { capacity = capacity; salt = salt; count = count }) t2)) i) × (sum ≤ 65536 * i)
 
 abbrev μ-loop : tie.MeasureT-loop
-μ-loop t2 capacity count weights used numerators denominators sum₀ i₀ sum i = count - i
+μ-loop t2 capacity salt count weights used numerators denominators sum₀ i₀ sum i = count - i
 
 -- the table, after the columns were taken out and at the loop's head
 abbrev T : tie.After-denominators Inv-loop μ-loop → Table
@@ -37,6 +37,13 @@ T c = let s = c .before .before .before .before in tableOf (s .args .shape) (s .
 
 abbrev TL : tie.At-loop Inv-loop μ-loop → Table
 TL l = T (l .before .before .before .before)
+
+-- whether capacity and salt are in range, by the first test
+range-is : (c : tie.After-in-range Inv-loop μ-loop) (b : Bool) → c .in-range .result ≡ b → inRange (T (c .before) .capacity) (T (c .before) .salt) ≡ b
+range-is c b e = sym (c .in-range .ensures) ∙ e
+
+ranged : (c : tie.Else1 Inv-loop μ-loop) → inRange (T (c .before .before) .capacity) (T (c .before .before) .salt) ≡ true
+ranged c = range-is (c .before) true (not-false _ (c .if1 .left))
 
 array-copy-out-weights : tie.Need-array-copy-out-weights Inv-loop μ-loop
 array-copy-out-weights c = search needs
@@ -50,21 +57,20 @@ array-copy-out-numerators c = search needs
 array-copy-out-denominators : tie.Need-array-copy-out-denominators Inv-loop μ-loop
 array-copy-out-denominators c = search needs
 
+in-range-requires : tie.Need-in-range-requires Inv-loop μ-loop
+in-range-requires c κs = search needs
+
 returns : tie.Need-returns Inv-loop μ-loop
 unfolding sound
-returns c = rw (lt-leb _ _ (c .if1 .taken))
+returns c = rw (range-is (c .before) false (not-true _ (c .if1 .taken)))
 
 returns-2 : tie.Need-returns-2 Inv-loop μ-loop
 unfolding sound
-returns-2 c = rw (le-leb _ _ (c .before .if1 .left), lt-leb _ _ (c .if2 .taken))
-
-returns-3 : tie.Need-returns-3 Inv-loop μ-loop
-unfolding sound
-returns-3 c = rw (le-leb _ _ (c .before .before .if1 .left), le-leb _ _ (c .before .if2 .left), lt-leb _ _ (c .if3 .taken))
+returns-2 c = rw (ranged (c .before), lt-leb _ _ (c .if2 .taken))
 
 loop-holds : tie.Need-loop-holds Inv-loop μ-loop
 unfolding allBelow total
-loop-holds c = (search needs, search needs, search needs, refl, refl, search needs)
+loop-holds c = (search needs, search needs, range-high _ _ (ranged (c .before)), refl, refl, search needs)
 
 mul-weight : tie.Need-mul-weight Inv-loop μ-loop
 mul-weight c = search needs
@@ -76,36 +82,36 @@ shared-slice-read-weight c = search needs
 fails : (l : tie.In-loop Inv-loop μ-loop) → serverSound (TL (l .before)) (l .before .loop .i) ≡ false → sound (TL (l .before)) ≡ false
 fails l e = server-unsound (TL (l .before)) (l .before .loop .i) (l .loop-test .taken) e
 
+returns-3 : tie.Need-returns-3 Inv-loop μ-loop
+unfolding serverSound
+returns-3 c = sym (fails (c .before .before) (rw (lt-leb _ _ (c .if3 .taken))))
+
+mul-if4 : tie.Need-mul-if4 Inv-loop μ-loop
+mul-if4 c = search needs
+
+shared-slice-read-if4 : tie.Need-shared-slice-read-if4 Inv-loop μ-loop
+shared-slice-read-if4 c = search needs
+
 returns-4 : tie.Need-returns-4 Inv-loop μ-loop
 unfolding serverSound
-returns-4 c = sym (fails (c .before .before) (rw (lt-leb _ _ (c .if4 .taken))))
-
-mul-if5 : tie.Need-mul-if5 Inv-loop μ-loop
-mul-if5 c = search needs
-
-shared-slice-read-if5 : tie.Need-shared-slice-read-if5 Inv-loop μ-loop
-shared-slice-read-if5 c = search needs
-
-returns-5 : tie.Need-returns-5 Inv-loop μ-loop
-unfolding serverSound
-returns-5 c =
+returns-4 c =
     let four = c .before .before in
-    sym (fails (four .before .before) (rw (le-leb _ _ (four .if4 .left), lt-leb _ _ (c .if5 .taken))))
+    sym (fails (four .before .before) (rw (le-leb _ _ (four .if3 .left), lt-leb _ _ (c .if4 .taken))))
 
 add-sum : tie.Need-add-sum Inv-loop μ-loop
 add-sum c = search needs
 
-mul-t25 : tie.Need-mul-t25 Inv-loop μ-loop
-mul-t25 c = search needs
+mul-t27 : tie.Need-mul-t27 Inv-loop μ-loop
+mul-t27 c = search needs
 
-shared-slice-read-t27 : tie.Need-shared-slice-read-t27 Inv-loop μ-loop
-shared-slice-read-t27 c = search needs
+shared-slice-read-t29 : tie.Need-shared-slice-read-t29 Inv-loop μ-loop
+shared-slice-read-t29 c = search needs
 
-mul-t30 : tie.Need-mul-t30 Inv-loop μ-loop
-mul-t30 c = search needs
+mul-t32 : tie.Need-mul-t32 Inv-loop μ-loop
+mul-t32 c = search needs
 
-shared-slice-read-t32 : tie.Need-shared-slice-read-t32 Inv-loop μ-loop
-shared-slice-read-t32 c = search needs
+shared-slice-read-t34 : tie.Need-shared-slice-read-t34 Inv-loop μ-loop
+shared-slice-read-t34 c = search needs
 
 read-sound-requires : tie.Need-read-sound-requires Inv-loop μ-loop
 read-sound-requires c κs = search needs
@@ -120,10 +126,10 @@ server-here c =
     let l = L c .before in
     let five = c .before .before .before in
     let four = five .before .before in
-    tested (TL l) (l .loop .i) (l .loop .sum) _ (c .read-sound .result) (four .if4 .left) (five .if5 .left) (l .loop .inv .4) refl (c .read-sound .ensures)
+    tested (TL l) (l .loop .i) (l .loop .sum) _ (c .read-sound .result) (four .if3 .left) (five .if4 .left) (l .loop .inv .4) refl (c .read-sound .ensures)
 
-returns-6 : tie.Need-returns-6 Inv-loop μ-loop
-returns-6 c = sym (fails (L (c .before)) (server-here (c .before) ∙ not-true _ (c .if6 .taken)))
+returns-5 : tie.Need-returns-5 Inv-loop μ-loop
+returns-5 c = sym (fails (L (c .before)) (server-here (c .before) ∙ not-true _ (c .if5 .taken)))
 
 add-i : tie.Need-add-i Inv-loop μ-loop
 add-i c = search needs
@@ -137,16 +143,16 @@ loop-again c =
       search needs,
       search needs,
       search needs,
-      allBelow-more (serverSound (TL l)) (l .loop .i) (l .loop .inv .3) (server-here (c .before) ∙ not-false _ (c .if6 .left)),
+      allBelow-more (serverSound (TL l)) (l .loop .i) (l .loop .inv .3) (server-here (c .before) ∙ not-false _ (c .if5 .left)),
       rw total-more (cc),
       search needs,
     )
 
-returns-7 : tie.Need-returns-7 Inv-loop μ-loop
-returns-7 c =
+returns-6 : tie.Need-returns-6 Inv-loop μ-loop
+returns-6 c =
     let l = c .before in
     let e : l .loop .i ≡ TL l .count = omega arith in
-    sym (tested-sound (TL l) (l .before .before .before .if1 .left) (l .loop .inv .2) (l .loop .inv .1) (rw e at (l .loop .inv .3)))
+    sym (tested-sound (TL l) (ranged (l .before .before)) (l .loop .inv .1) (rw e at (l .loop .inv .3)))
 
 pub is-sound-spec : {M : Type 1} → statement M
 is-sound-spec =
@@ -158,24 +164,24 @@ is-sound-spec =
     array-copy-out-used
     array-copy-out-numerators
     array-copy-out-denominators
+    in-range-requires
     returns
     returns-2
-    returns-3
     loop-holds
     mul-weight
     shared-slice-read-weight
+    returns-3
+    mul-if4
+    shared-slice-read-if4
     returns-4
-    mul-if5
-    shared-slice-read-if5
-    returns-5
     add-sum
-    mul-t25
-    shared-slice-read-t27
-    mul-t30
-    shared-slice-read-t32
+    mul-t27
+    shared-slice-read-t29
+    mul-t32
+    shared-slice-read-t34
     read-sound-requires
-    returns-6
+    returns-5
     add-i
     loop-less
     loop-again
-    returns-7)
+    returns-6)

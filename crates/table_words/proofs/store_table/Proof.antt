@@ -1,4 +1,4 @@
--- `table_words::store_table` meets its contract: two words and four arrays.
+-- `table_words::store_table` meets its contract: three words and four arrays.
 use mathlib.Core.Path.{_≡_, _∙_}
 use native.Mathlib.Omega.{arith}
 use lib.ListN.{length, length-set}
@@ -40,11 +40,14 @@ arrays c = search needs
 slice-write-words : tie.Need-slice-write-words
 slice-write-words c = search needs
 
+slice-write-words-2 : tie.Need-slice-write-words-2
+slice-write-words-2 c = simp length-set (omega arith)
+
 cast-words : tie.Need-cast-words
 cast-words c = search needs
 
-slice-write-words-2 : tie.Need-slice-write-words-2
-slice-write-words-2 c = simp length-set (omega arith)
+slice-write-words-3 : tie.Need-slice-write-words-3
+slice-write-words-3 c = simp length-set (omega arith)
 
 store-array-requires : tie.Need-store-array-requires
 store-array-requires c κs =
@@ -85,8 +88,9 @@ store-table-spec =
     tie.close
     (tie.spec
     slice-write-words
-    cast-words
     slice-write-words-2
+    cast-words
+    slice-write-words-3
     store-array-requires
     store-array-requires-2
     store-array-requires-3

@@ -1,4 +1,4 @@
--- `table_words::table_from` meets its contract: two words and four arrays.
+-- `table_words::table_from` meets its contract: three words and four arrays.
 use native.Mathlib.Omega.{arith}
 use borrow.Author.Needs.{needs}
 use Rattle.table_words.proofs.Lent.{read-table}
@@ -11,8 +11,11 @@ shared-slice-read-t3 c = search needs
 shared-slice-read-t5 : tie.Need-shared-slice-read-t5
 shared-slice-read-t5 c = search needs
 
-cast-t6 : tie.Need-cast-t6
-cast-t6 c = omega (arith, c .shared-slice-known3 .given 1)
+shared-slice-read-t7 : tie.Need-shared-slice-read-t7
+shared-slice-read-t7 c = search needs
+
+cast-t8 : tie.Need-cast-t8
+cast-t8 c = omega (arith, c .shared-slice-known4 .given 2)
 
 array-at-requires : tie.Need-array-at-requires
 array-at-requires c κs = search needs
@@ -32,7 +35,7 @@ returns c =
     let a₂ = a₃ .before in
     let a₁ = a₂ .before in
     let k = a₁ .before in
-    (read-table _ _ _ _ _ (a₁ .array-at .ensures) (a₂ .array-at2 .ensures) (a₃ .array-at3 .ensures) (c .array-at4 .ensures), omega (arith, k .shared-slice-known3 .given 1))
+    (read-table _ _ _ _ _ (a₁ .array-at .ensures) (a₂ .array-at2 .ensures) (a₃ .array-at3 .ensures) (c .array-at4 .ensures), omega (arith, k .shared-slice-known4 .given 2))
 
 pub table-from-spec : {M : Type 1} → statement M
 table-from-spec =
@@ -40,7 +43,8 @@ table-from-spec =
     (tie.spec
     shared-slice-read-t3
     shared-slice-read-t5
-    cast-t6
+    shared-slice-read-t7
+    cast-t8
     array-at-requires
     array-at-requires-2
     array-at-requires-3

@@ -26,7 +26,7 @@ new-write ws n w l = rw (getD-set-same ws n w 0 l, total-cong (nth (set ws n w))
 -- the table that the code puts together
 made : (t : Table) (weight sum : ℕ) (write : Fraction) → t .count < length (t .weights) → sum ≡ total (weightOf t) (t .count) → write ≡ shareOf (t .count) weight (sum + weight)
     → tableBy
-    (record { capacity = t .capacity; count = t .count + 1 })
+    (record { capacity = t .capacity; salt = t .salt; count = t .count + 1 })
     (set (t .weights) (t .count) weight)
     (set (t .used) (t .count) 0)
     (set (t .numerators) (t .count) (write .num))
