@@ -4,7 +4,8 @@
  * The archive is two runs of 32-bit words that the caller owns and lends to each call:
  *
  *   table   ARCHIVE_TABLE_WORDS words. It says which servers there are, their weights and how many entries of each are
- *           used. archive_start makes one; the caller keeps it from call to call, and may store it and lend it again later.
+ *           used, and keeps the archive's salt. archive_start makes one; the caller keeps it from call to call, and may store it
+ *           and lend it again later.
  *   medium  the discs, as one run of words. Server k has ARCHIVE_SERVER_WORDS(capacity) words from
  *           k * ARCHIVE_SERVER_WORDS(capacity) on. Before its server is added every word must be ARCHIVE_BLANK.
  *
@@ -28,12 +29,13 @@ extern "C" {
 /*
  * The version of this interface. It grows when a signature or an encoding changes; archive_abi() answers the library's own. The
  * number of a call or of a refusal never gets another meaning. Version 2 has tenants: word 1 of a call, an argument of
- * archive_lookup_batch, and refusal 11.
+ * archive_lookup_batch, and refusal 11. Version 3 has a salt: an argument of archive_start, archive_replay and archive_picks, and
+ * a word of the table.
  */
-#define ARCHIVE_ABI 2u
+#define ARCHIVE_ABI 3u
 
 /* How many words a table, a call and a reply have. */
-#define ARCHIVE_TABLE_WORDS 1026u
+#define ARCHIVE_TABLE_WORDS 1027u
 #define ARCHIVE_CALL_WORDS 8u
 #define ARCHIVE_REPLY_WORDS 8u
 
@@ -43,7 +45,7 @@ extern "C" {
 /* How many words of the medium a server has, by the table's capacity: the entries of each server, 1 to 65,536. */
 #define ARCHIVE_SERVER_WORDS(capacity) ((size_t)3 * (size_t)(capacity))
 
-/* The most servers, the most entries of a server, the most ids of a batch; ids and values are below ARCHIVE_CONTENT_RANGE. */
+/* The most servers, entries of a server, and ids of a batch; ids, values and salts are below ARCHIVE_CONTENT_RANGE. */
 #define ARCHIVE_MAX_SERVERS 256u
 #define ARCHIVE_MAX_CAPACITY 65536u
 #define ARCHIVE_MAX_IDS 256u
@@ -96,7 +98,7 @@ extern "C" {
  */
 #define ARCHIVE_ACCEPTED 0u
 #define ARCHIVE_UNSOUND_TABLE 1u     /* foreign table: its words are no table that calls can have made */
-#define ARCHIVE_OUT_OF_RANGE 2u      /* out of range: a capacity, weight, tenant, id or value, or a list of more than 256 ids */
+#define ARCHIVE_OUT_OF_RANGE 2u      /* out of range: a capacity, salt, weight, tenant, id or value, or a list of over 256 ids */
 #define ARCHIVE_NO_SUCH_SERVER 3u    /* no such shelf: no server has that number, or there is none at all */
 #define ARCHIVE_TOO_MANY_SERVERS 4u  /* rack full: there are 256 servers already */
 #define ARCHIVE_SHORT_MEDIUM 5u      /* short medium: the medium has too few words for the servers */
@@ -119,10 +121,13 @@ size_t archive_table_words(void);
 
 /*
  * Makes a table of no server, whose servers will have `capacity` entries each.
- * Answers ARCHIVE_ACCEPTED; ARCHIVE_OUT_OF_RANGE for a capacity of 0 or above 65,536, and the table is then all zeros, on
- * which every call is refused; or ARCHIVE_SHORT.
+ * The salt is a number of the caller's choice, below ARCHIVE_CONTENT_RANGE, that is added to every id where the rule says which
+ * servers it may go to. Two archives with different salts send the same ids to different servers, so that the ids that crowd a
+ * server of one do not all crowd the same server of the other. 0 is the plain rule. The table keeps the salt for all later calls.
+ * Answers ARCHIVE_ACCEPTED; ARCHIVE_OUT_OF_RANGE for a capacity of 0 or above 65,536 or a salt of ARCHIVE_CONTENT_RANGE or more,
+ * and the table is then all zeros, on which every call is refused; or ARCHIVE_SHORT.
  */
-uint32_t archive_start(uint32_t capacity, uint32_t *table, size_t table_words);
+uint32_t archive_start(uint32_t capacity, uint32_t salt, uint32_t *table, size_t table_words);
 
 /*
  * Runs one call and stores its reply.
@@ -150,10 +155,11 @@ uint32_t archive_lookup_batch(const uint32_t *table, size_t table_words,
                               uint32_t *mounts, size_t mounts_words);
 
 /*
- * Runs a list of calls, eight words each, one after another on a new table of this capacity, and stores their replies.
- * Answers how many were run: as many as both `calls` and `replies` have room for, and none if the capacity is out of range.
+ * Runs a list of calls, eight words each, one after another on a new table of this capacity and salt, and stores their replies.
+ * Answers how many were run: as many as both `calls` and `replies` have room for, and none if the capacity or the salt is out of
+ * range.
  */
-size_t archive_replay(uint32_t capacity,
+size_t archive_replay(uint32_t capacity, uint32_t salt,
                       const uint32_t *calls, size_t calls_words,
                       uint32_t *medium, size_t medium_words,
                       uint32_t *replies, size_t replies_words);
@@ -168,11 +174,13 @@ size_t archive_resume(uint32_t *table, size_t table_words,
                       uint32_t *replies, size_t replies_words);
 
 /*
- * Where writes would go: for each id the server that the rule picks among servers of these weights. No table, no medium.
+ * Where writes would go: for each id the server that the rule picks among servers of these weights in an archive with this salt.
+ * No table, no medium.
  * Answers how many servers were stored: as many as both `ids` and `servers` have room for, and none if there is no weight,
- * there are more than 256, or one is above 65,536.
+ * there are more than 256, one is above 65,536, or the salt is ARCHIVE_CONTENT_RANGE or more.
  */
 size_t archive_picks(const uint32_t *weights, size_t weights_words,
+                     uint32_t salt,
                      const uint32_t *ids, size_t ids_words,
                      uint32_t *servers, size_t servers_words);
 

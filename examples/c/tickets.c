@@ -1,9 +1,10 @@
-/* Starts an archive of three servers, writes tickets of two tenants, looks them up, and prints what it did. */
+/* Starts an archive of three servers with a salt of its own, writes tickets of two tenants, looks them up, and prints what it did. */
 #include <stdio.h>
 #include <stdlib.h>
 #include "archive.h"
 
 #define CAPACITY 100
+#define SALT 12345
 #define SERVERS 3
 #define WORDS (ARCHIVE_SERVER_WORDS(CAPACITY) * SERVERS)
 
@@ -45,7 +46,7 @@ static void look_up(uint32_t tenant, uint32_t id)
 
 int main(void)
 {
-    if (archive_abi() != ARCHIVE_ABI || archive_start(CAPACITY, table, ARCHIVE_TABLE_WORDS) != ARCHIVE_ACCEPTED)
+    if (archive_abi() != ARCHIVE_ABI || archive_start(CAPACITY, SALT, table, ARCHIVE_TABLE_WORDS) != ARCHIVE_ACCEPTED)
         return 1;
     for (size_t i = 0; i < WORDS; i++)
         medium[i] = ARCHIVE_BLANK;

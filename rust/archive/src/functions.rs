@@ -4,7 +4,7 @@
 extern "C" {
     fn archive_abi() -> u32;
     fn archive_table_words() -> usize;
-    fn archive_start(capacity: u32, table: *mut u32, table_words: usize) -> u32;
+    fn archive_start(capacity: u32, salt: u32, table: *mut u32, table_words: usize) -> u32;
     fn archive_call(
         table: *mut u32,
         table_words: usize,
@@ -32,6 +32,7 @@ extern "C" {
     ) -> u32;
     fn archive_replay(
         capacity: u32,
+        salt: u32,
         calls: *const u32,
         calls_words: usize,
         medium: *mut u32,
@@ -52,6 +53,7 @@ extern "C" {
     fn archive_picks(
         weights: *const u32,
         weights_words: usize,
+        salt: u32,
         ids: *const u32,
         ids_words: usize,
         servers: *mut u32,
@@ -72,9 +74,9 @@ pub fn table_words() -> usize {
     unsafe { archive_table_words() }
 }
 
-/// Makes a table of no server; answers a refusal number, or 0.
-pub fn start(capacity: u32, table: &mut [u32]) -> u32 {
-    unsafe { archive_start(capacity, table.as_mut_ptr(), table.len()) }
+/// Makes a table of no server with this salt; answers a refusal number, or 0.
+pub fn start(capacity: u32, salt: u32, table: &mut [u32]) -> u32 {
+    unsafe { archive_start(capacity, salt, table.as_mut_ptr(), table.len()) }
 }
 
 /// Runs one encoded call; answers its refusal number, or 0.
@@ -122,11 +124,18 @@ pub fn lookup_batch(
     }
 }
 
-/// Runs an encoded list on a table started with this capacity; answers how many calls ran.
-pub fn replay(capacity: u32, calls: &[u32], medium: &mut [u32], replies: &mut [u32]) -> usize {
+/// Runs an encoded list on a table started with this capacity and salt; answers how many calls ran.
+pub fn replay(
+    capacity: u32,
+    salt: u32,
+    calls: &[u32],
+    medium: &mut [u32],
+    replies: &mut [u32],
+) -> usize {
     unsafe {
         archive_replay(
             capacity,
+            salt,
             calls.as_ptr(),
             calls.len(),
             medium.as_mut_ptr(),
@@ -153,12 +162,13 @@ pub fn resume(table: &mut [u32], calls: &[u32], medium: &mut [u32], replies: &mu
     }
 }
 
-/// Picks the write server of each id; answers how many were picked.
-pub fn picks(weights: &[u32], ids: &[u32], servers: &mut [u32]) -> usize {
+/// Picks the write server of each id under this salt; answers how many were picked.
+pub fn picks(weights: &[u32], salt: u32, ids: &[u32], servers: &mut [u32]) -> usize {
     unsafe {
         archive_picks(
             weights.as_ptr(),
             weights.len(),
+            salt,
             ids.as_ptr(),
             ids.len(),
             servers.as_mut_ptr(),

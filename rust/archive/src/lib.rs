@@ -4,7 +4,7 @@
 //! use ticket_archive::{server_words, tenant_of, Archive, Refusal, BLANK};
 //!
 //! let mut medium = vec![BLANK; 2 * server_words(100)];
-//! let mut archive = Archive::start(100, &mut medium).unwrap();
+//! let mut archive = Archive::start(100, 12345, &mut medium).unwrap();
 //! archive.add_server(60).unwrap();
 //! archive.add_server(40).unwrap();
 //! let tenant = tenant_of(1001);
@@ -15,6 +15,9 @@
 //! ```
 //!
 //! Each id belongs to one of eight tenants ([`tenant_of`]), and a call that names an id says which tenant makes it.
+//!
+//! An archive has a salt below [`CONTENT_RANGE`], here 12345: archives with different salts file the same ids differently.
+//! 0 is the plain rule.
 
 pub mod functions;
 mod words;
@@ -148,10 +151,10 @@ fn looked_up(reply: &[u32]) -> Result<Found, Missed> {
 }
 
 impl<'m> Archive<'m> {
-    /// An archive of no server over a medium, whose servers will have this many entries each.
-    pub fn start(capacity: u32, medium: &'m mut [u32]) -> Result<Self, Refusal> {
+    /// An archive of no server over a medium, whose servers will have this many entries each, and whose table keeps this salt.
+    pub fn start(capacity: u32, salt: u32, medium: &'m mut [u32]) -> Result<Self, Refusal> {
         let mut table = [0; TABLE_WORDS];
-        told(functions::start(capacity, &mut table))?;
+        told(functions::start(capacity, salt, &mut table))?;
         Ok(Archive { table, medium })
     }
 

@@ -1,10 +1,10 @@
 //! Calls and replies as words, as include/archive.h has them.
 
 /// The version of the interface that this crate is written for; `functions::abi` answers the library's own.
-pub const ABI: u32 = 2;
+pub const ABI: u32 = 3;
 
 /// How many words a table has.
-pub const TABLE_WORDS: usize = 1026;
+pub const TABLE_WORDS: usize = 1027;
 
 /// How many words a call has.
 pub const CALL_WORDS: usize = 8;
@@ -29,7 +29,7 @@ pub const MAX_CAPACITY: u32 = 65_536;
 /// The most ids of a batch.
 pub const MAX_IDS: usize = 256;
 
-/// Ids and values are below this.
+/// Ids, values and salts are below this.
 pub const CONTENT_RANGE: u32 = 1 << 30;
 
 /// How many tenants there are, numbered from 0.

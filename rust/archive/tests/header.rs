@@ -91,6 +91,18 @@ fn an_id_has_its_tenant() {
 }
 
 #[test]
+fn a_salt_is_in_range_and_kept() {
+    let started = |salt| {
+        let mut medium = [BLANK; 3];
+        let archive = Archive::start(1, salt, &mut medium)?;
+        Ok(archive.table()[..3].to_vec())
+    };
+    let last = CONTENT_RANGE - 1;
+    assert_eq!(started(last), Ok(vec![1, last, 0]));
+    assert_eq!(started(CONTENT_RANGE), Err(Refusal::OutOfRange));
+}
+
+#[test]
 fn the_library_has_the_numbers_of_the_crate() {
     assert_eq!(functions::abi(), ABI);
     assert_eq!(functions::table_words(), TABLE_WORDS);
