@@ -1,7 +1,8 @@
-//! The archive in ordinary Rust, from document 01 and the second request of document 02: a mutable
-//! table and a lent medium. A refused call changes neither.
+//! The archive in ordinary Rust, from document 01 and the second and fourth requests of document
+//! 02: a mutable table and a lent medium. A refused call changes neither.
 
-use crate::placement::{draw, share, write_server, Fraction, MAX_CAPACITY, MAX_SERVERS};
+use crate::placement::{draw, share, write_server, Fraction};
+use crate::placement::{MAX_CAPACITY, MAX_SERVERS, SALT_RANGE};
 
 pub const BLANK: u32 = u32::MAX;
 pub const CONTENT_RANGE: u32 = 1 << 30;
@@ -83,6 +84,7 @@ fn refuse_if(condition: bool, refusal: Refusal) -> Result<(), Refusal> {
 #[derive(Clone, Debug, PartialEq, Eq)]
 pub struct Table {
     pub capacity: u32,
+    pub salt: u32,
     pub count: u32,
     pub weights: [u32; MAX_SERVERS],
     pub used: [u32; MAX_SERVERS],
@@ -94,6 +96,7 @@ impl Table {
     /// All zeros: what a refused start leaves.
     pub const ZERO: Table = Table {
         capacity: 0,
+        salt: 0,
         count: 0,
         weights: [0; MAX_SERVERS],
         used: [0; MAX_SERVERS],
@@ -101,13 +104,14 @@ impl Table {
         read_denominators: [0; MAX_SERVERS],
     };
 
-    pub fn start(capacity: u32) -> Result<Table, Refusal> {
+    pub fn start(capacity: u32, salt: u32) -> Result<Table, Refusal> {
         refuse_if(
-            capacity == 0 || capacity > MAX_CAPACITY,
+            capacity == 0 || capacity > MAX_CAPACITY || salt >= SALT_RANGE,
             Refusal::OutOfRange,
         )?;
         Ok(Table {
             capacity,
+            salt,
             ..Table::ZERO
         })
     }
@@ -115,6 +119,9 @@ impl Table {
     pub fn is_sound(&self) -> bool {
         let count = self.count as usize;
         if self.capacity == 0 || self.capacity > MAX_CAPACITY || count > MAX_SERVERS {
+            return false;
+        }
+        if self.salt >= SALT_RANGE {
             return false;
         }
         let servers = self.weights[..count]
@@ -177,7 +184,7 @@ impl Table {
         value: u32,
     ) -> Result<Written, Refusal> {
         self.refuse_asked(medium, tenant, id, value >= CONTENT_RANGE)?;
-        let server = write_server(&self.weights[..self.count as usize], id);
+        let server = write_server(&self.weights[..self.count as usize], self.salt, id);
         let used = self.used[server];
         refuse_if(used == self.capacity, Refusal::ServerFull)?;
         let entry = &mut medium.as_chunks_mut().0[self.first_entry(server) + used as usize];
@@ -241,8 +248,9 @@ impl Table {
     pub fn described(&self) -> String {
         let count = (self.count as usize).min(MAX_SERVERS);
         format!(
-            "capacity {}, count {}\nweights {:?}\nused {:?}\nReadP {:?} over {:?}",
+            "capacity {}, salt {}, count {}\nweights {:?}\nused {:?}\nReadP {:?} over {:?}",
             self.capacity,
+            self.salt,
             self.count,
             &self.weights[..count],
             &self.used[..count],
@@ -298,7 +306,7 @@ impl Table {
     }
 
     fn is_readable(&self, server: usize, id: u32) -> bool {
-        self.read_p(server).exceeds(draw(id, server))
+        self.read_p(server).exceeds(draw(self.salt, id, server))
     }
 
     /// Each server whose WriteP is strictly above its ReadP takes it.

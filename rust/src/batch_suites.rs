@@ -1,8 +1,8 @@
 //! The kinds of batches that are compared.
 
-use crate::archive::{tenant_of, Table, BLANK, CONTENT_RANGE};
+use crate::archive::{tenant_of, BLANK, CONTENT_RANGE};
 use crate::batch_differ::Room;
-use crate::calls::{Call, REPLY_WORDS};
+use crate::calls::{Call, CAPACITY, COUNT, REPLY_WORDS};
 use crate::differ::{Difference, Lent, Tally};
 use crate::lists::{caller, Shape};
 use crate::random::Random;
@@ -31,7 +31,7 @@ fn begun(random: &mut Random, tally: &mut Tally) -> Result<(Shape, Lent), Differ
     if !random.one_in(4) {
         shape = shape.mostly_of_one(random);
     }
-    let table = Table::start(shape.capacity).expect("in range");
+    let table = shape.table();
     let mut lent = Lent::new(&table, vec![BLANK; shape.medium_len(random)]);
     let length = random.between(1, 80) as usize;
     lent.run(&shape.list(random, length), tally)?;
@@ -146,7 +146,7 @@ fn altered(random: &mut Random, tally: &mut Tally) -> Result<(), Difference> {
 
 fn short_media(random: &mut Random, tally: &mut Tally) -> Result<(), Difference> {
     let (shape, mut lent) = begun(random, tally)?;
-    let needed = (3 * lent.table[0] * lent.table[1]) as usize;
+    let needed = (3 * lent.table[CAPACITY] * lent.table[COUNT]) as usize;
     let length = match random.below(4) {
         0 => needed,
         1 => needed.saturating_sub(1),
@@ -167,7 +167,7 @@ fn many_servers(random: &mut Random, tally: &mut Tally) -> Result<(), Difference
     shape.servers = random.between(250, 257);
     shape.ids = (0..300).map(|_| random.below(CONTENT_RANGE)).collect();
     let shape = shape.mostly_of_one(random);
-    let table = Table::start(shape.capacity).expect("in range");
+    let table = shape.table();
     let mut lent = Lent::new(&table, vec![BLANK; shape.medium_len(random)]);
     let added = (0..shape.servers).map(|_| Call::AddServer {
         weight: random.below(shape.capacity + 1),

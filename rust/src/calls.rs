@@ -1,5 +1,5 @@
 //! Calls and replies as words, and lists of them run on the Rust implementation. The layout is
-//! that of the proved functions: eight words a call, eight a reply, 1,026 a table.
+//! that of the proved functions: eight words a call, eight a reply, 1,027 a table.
 
 use crate::archive::{tenant_of, Missed, Refusal, Table};
 use crate::placement::MAX_SERVERS;
@@ -20,7 +20,18 @@ const VALUE: usize = 2;
 const OPENED: usize = 4;
 pub const INVALIDATED: usize = 5;
 
-pub const TABLE_WORDS: usize = 2 + 4 * MAX_SERVERS;
+/// A table's words: its capacity, its salt, its count, and four parts of a word for each server:
+/// weights, used, numerators and denominators.
+pub const TABLE_WORDS: usize = table_word(4, 0);
+pub const CAPACITY: usize = 0;
+pub const SALT: usize = 1;
+pub const COUNT: usize = 2;
+pub const PARTS: usize = 3;
+
+/// Where the word of a server stands in one of the four parts.
+pub const fn table_word(part: usize, server: usize) -> usize {
+    PARTS + part * MAX_SERVERS + server
+}
 
 #[derive(Clone, Copy, Debug, PartialEq, Eq)]
 pub enum Call {
@@ -191,12 +202,13 @@ impl From<Missed> for Reply {
 impl Table {
     pub fn from_words(words: &[u32; TABLE_WORDS]) -> Self {
         let part = |at: usize| -> [u32; MAX_SERVERS] {
-            let start = 2 + at * MAX_SERVERS;
-            words[start..start + MAX_SERVERS].try_into().expect("256")
+            let part = &words[table_word(at, 0)..table_word(at + 1, 0)];
+            part.try_into().expect("256")
         };
         Table {
-            capacity: words[0],
-            count: words[1],
+            capacity: words[CAPACITY],
+            salt: words[SALT],
+            count: words[COUNT],
             weights: part(0),
             used: part(1),
             read_numerators: part(2),
@@ -205,15 +217,16 @@ impl Table {
     }
 
     pub fn store(&self, words: &mut [u32; TABLE_WORDS]) {
-        words[0] = self.capacity;
-        words[1] = self.count;
+        words[CAPACITY] = self.capacity;
+        words[SALT] = self.salt;
+        words[COUNT] = self.count;
         let parts = [
             &self.weights,
             &self.used,
             &self.read_numerators,
             &self.read_denominators,
         ];
-        for (words, part) in words[2..].chunks_exact_mut(MAX_SERVERS).zip(parts) {
+        for (words, part) in words[PARTS..].chunks_exact_mut(MAX_SERVERS).zip(parts) {
             words.copy_from_slice(part);
         }
     }
@@ -277,15 +290,21 @@ impl Table {
     }
 }
 
-/// Capacity, calls, medium, replies; answers how many calls ran.
-pub type Replay = fn(u32, &[u32], &mut [u32], &mut [u32]) -> usize;
+/// Capacity, salt, calls, medium, replies; answers how many calls ran.
+pub type Replay = fn(u32, u32, &[u32], &mut [u32], &mut [u32]) -> usize;
 
 /// Table, calls, medium, replies; answers how many calls ran.
 pub type Resume = fn(&mut [u32], &[u32], &mut [u32], &mut [u32]) -> usize;
 
 /// The Rust implementation behind the interface of the proved `replay`.
-pub fn replay(capacity: u32, calls: &[u32], medium: &mut [u32], replies: &mut [u32]) -> usize {
-    match Table::start(capacity) {
+pub fn replay(
+    capacity: u32,
+    salt: u32,
+    calls: &[u32],
+    medium: &mut [u32],
+    replies: &mut [u32],
+) -> usize {
+    match Table::start(capacity, salt) {
         Ok(mut table) => table.run_all(calls, medium, replies),
         Err(_) => 0,
     }

@@ -4,9 +4,11 @@
 use std::fmt::Write;
 
 use crate::archive::{Table, BLANK};
-use crate::calls::{self, Call, INVALIDATED, REFUSAL, REPLY_WORDS, TABLE_WORDS};
+use crate::calls::{self, Call, CAPACITY, COUNT, INVALIDATED, PARTS, REFUSAL};
+use crate::calls::{REPLY_WORDS, SALT, TABLE_WORDS};
 use crate::ledger::Ledger;
-use crate::placement::{self, MAX_SERVERS};
+use crate::placement::{self, MAX_SERVERS, SALT_RANGE};
+use crate::salts::BySalt;
 use ticket_archive::functions as proved;
 
 /// Where two sides differ, in words for the reader.
@@ -20,6 +22,10 @@ pub struct Tally {
     pub accepted: u64,
     pub refusals: [u64; 12],
     pub no_calls: u64,
+    /// The calls by the salt that they were made under, and those of lists that were not run, the
+    /// salt being out of range.
+    pub by_salt: BySalt,
+    pub not_run: u64,
     pub picks: u64,
     /// Calls run one at a time, and the runs too short and the starts among them.
     pub single_calls: u64,
@@ -40,8 +46,11 @@ pub struct Tally {
 }
 
 impl Tally {
-    fn count(&mut self, replies: &[u32]) {
+    /// A list run under a salt, by its replies.
+    fn count(&mut self, salt: u32, replies: &[u32]) {
         self.lists += 1;
+        let calls = replies.len() / REPLY_WORDS;
+        self.by_salt.count(salt, calls as u64);
         for reply in replies.chunks_exact(REPLY_WORDS) {
             self.calls += 1;
             match reply[REFUSAL] {
@@ -49,6 +58,14 @@ impl Tally {
                 number @ 1..=11 => self.refusals[number as usize] += 1,
                 _ => self.no_calls += 1,
             }
+        }
+    }
+
+    /// A list run from a start with this salt, by its replies.
+    fn count_replay(&mut self, salt: u32, list: &[Call], replies: &[u32]) {
+        self.count(salt, replies);
+        if salt >= SALT_RANGE {
+            self.not_run += list.len() as u64;
         }
     }
 }
@@ -94,10 +111,10 @@ impl Encoded {
         self
     }
 
-    fn replay(&self, run: calls::Replay, capacity: u32, medium: &[u32]) -> Outcome {
+    fn replay(&self, run: calls::Replay, capacity: u32, salt: u32, medium: &[u32]) -> Outcome {
         let mut medium = medium.to_vec();
         let mut replies = vec![UNSTORED; self.room];
-        let ran = run(capacity, &self.words, &mut medium, &mut replies);
+        let ran = run(capacity, salt, &self.words, &mut medium, &mut replies);
         Outcome {
             ran,
             replies,
@@ -169,9 +186,9 @@ fn below_count(table: &[u32]) -> Vec<u32> {
     if table.len() < TABLE_WORDS {
         return table.to_vec();
     }
-    let count = (table[1] as usize).min(MAX_SERVERS);
-    let mut words = table[..2].to_vec();
-    for part in table[2..TABLE_WORDS].chunks_exact(MAX_SERVERS) {
+    let count = (table[COUNT] as usize).min(MAX_SERVERS);
+    let mut words = table[..PARTS].to_vec();
+    for part in table[PARTS..TABLE_WORDS].chunks_exact(MAX_SERVERS) {
         words.extend(&part[..count]);
     }
     words.extend(&table[TABLE_WORDS..]);
@@ -179,9 +196,14 @@ fn below_count(table: &[u32]) -> Vec<u32> {
 }
 
 /// The difference with what it takes to see it again.
-fn described(text: Difference, capacity: u32, medium: &[u32], list: &[Call]) -> Difference {
+fn described(
+    text: Difference,
+    [capacity, salt]: [u32; 2],
+    medium: &[u32],
+    list: &[Call],
+) -> Difference {
     let mut out = format!(
-        "{text}\ncapacity {capacity}, {} words of medium\n",
+        "{text}\ncapacity {capacity}, salt {salt}, {} words of medium\n",
         medium.len()
     );
     for (at, word) in medium.iter().enumerate().filter(|(_, &word)| word != BLANK) {
@@ -193,37 +215,37 @@ fn described(text: Difference, capacity: u32, medium: &[u32], list: &[Call]) -> 
     out
 }
 
-/// Runs `replay` on both sides, from a start on a medium as given.
+/// Runs `replay` on both sides, from a start with this capacity and salt on a medium as given.
 pub fn run_replay(
-    capacity: u32,
+    [capacity, salt]: [u32; 2],
     medium: &[u32],
     list: &[Call],
     encoded: &Encoded,
     tally: &mut Tally,
 ) -> Result<(), Difference> {
-    let proved = encoded.replay(proved::replay, capacity, medium);
-    let rust = encoded.replay(calls::replay, capacity, medium);
-    tally.count(proved.replies_run());
-    compare_outcomes(&proved, &rust).map_err(|text| described(text, capacity, medium, list))
+    let proved = encoded.replay(proved::replay, capacity, salt, medium);
+    let rust = encoded.replay(calls::replay, capacity, salt, medium);
+    tally.count_replay(salt, list, proved.replies_run());
+    compare_outcomes(&proved, &rust).map_err(|text| described(text, [capacity, salt], medium, list))
 }
 
-/// Runs `replay` on both sides on a blank medium, and the ledger.
+/// Runs `replay` on both sides from a start on a blank medium, and the ledger.
 pub fn run_blank(
-    capacity: u32,
+    [capacity, salt]: [u32; 2],
     medium_len: usize,
     list: &[Call],
     tally: &mut Tally,
 ) -> Result<(), Difference> {
     let medium = vec![BLANK; medium_len];
     let encoded = Encoded::new(list);
-    let proved = encoded.replay(proved::replay, capacity, &medium);
-    let rust = encoded.replay(calls::replay, capacity, &medium);
-    tally.count(proved.replies_run());
-    let mut ledger = Ledger::new(capacity, medium_len);
+    let proved = encoded.replay(proved::replay, capacity, salt, &medium);
+    let rust = encoded.replay(calls::replay, capacity, salt, &medium);
+    tally.count_replay(salt, list, proved.replies_run());
+    let mut ledger = Ledger::new(capacity, salt, medium_len);
     compare_outcomes(&proved, &rust)
         .and_then(|()| compare_ledger(&mut ledger, list, proved.replies_run()))
         .and_then(|()| compare_live(&proved.medium, ledger.accepted_writes()))
-        .map_err(|text| described(text, capacity, &medium, list))
+        .map_err(|text| described(text, [capacity, salt], &medium, list))
 }
 
 /// The ledger says nothing of invalidated entries.
@@ -265,15 +287,20 @@ impl Lent {
         }
     }
 
+    /// The capacity and the salt of the table lent, 0 where it is too short for them.
+    fn start(&self) -> [u32; 2] {
+        [CAPACITY, SALT].map(|at| self.table.get(at).copied().unwrap_or(0))
+    }
+
     /// Runs `resume` on both sides and keeps what both left.
     pub fn run(&mut self, list: &[Call], tally: &mut Tally) -> Result<(), Difference> {
         let encoded = Encoded::new(list);
         let proved = encoded.resume(proved::resume, &self.table, &self.medium);
         let rust = encoded.resume(calls::resume, &self.table, &self.medium);
-        tally.count(proved.replies_run());
+        let [_, salt] = self.start();
+        tally.count(salt, proved.replies_run());
         compare_outcomes(&proved, &rust).map_err(|text| {
-            let capacity = self.table.first().copied().unwrap_or(0);
-            let text = described(text, capacity, &self.medium, list);
+            let text = described(text, self.start(), &self.medium, list);
             format!("{text}table before: {:?}\n", below_count(&self.table))
         })?;
         self.table = proved.table;
@@ -297,26 +324,24 @@ impl Lent {
         tally.single_calls += single.ran as u64;
         compare_outcomes(&whole, &single)
             .and_then(|()| compare_words("whole table", &whole.table, &single.table))
-            .map_err(|text| {
-                let capacity = self.table.first().copied().unwrap_or(0);
-                described(text, capacity, &self.medium, list)
-            })
+            .map_err(|text| described(text, self.start(), &self.medium, list))
     }
 }
 
 /// Picks by the proved code and by the Rust implementation, with room for so many servers.
 pub fn run_picks(
     weights: &[u32],
+    salt: u32,
     ids: &[u32],
     room: usize,
     tally: &mut Tally,
 ) -> Result<(), Difference> {
     let mut ours = vec![UNSTORED; room];
     let mut theirs = ours.clone();
-    let our_count = proved::picks(weights, ids, &mut ours);
-    let their_count = placement::picks(weights, ids, &mut theirs);
+    let our_count = proved::picks(weights, salt, ids, &mut ours);
+    let their_count = placement::picks(weights, salt, ids, &mut theirs);
     tally.picks += our_count as u64;
     compare_words("picks", &ours, &theirs)
         .and_then(|()| compare_words("picked", &[our_count as u32], &[their_count as u32]))
-        .map_err(|text| format!("{text}\nweights {weights:?}\nids {ids:?}\n"))
+        .map_err(|text| format!("{text}\nweights {weights:?}\nsalt {salt}, ids {ids:?}\n"))
 }

@@ -4,11 +4,12 @@ use crate::archive::{tenant_of, CONTENT_RANGE, TENANTS};
 use crate::calls::Call;
 use crate::differ::{run_blank, Difference, Tally};
 use crate::lists::moved;
+use crate::placement::SALT_RANGE;
 use crate::random::Random;
 
 /// Every list of `depth` calls over a small alphabet, on a medium for so many servers of capacity
 /// 1: from nothing, and after every choice of weights 0 and 1 for all servers. The two ids differ in
-/// their tenant alone.
+/// their tenant alone; the salt is any.
 pub fn run(
     random: &mut Random,
     servers: u32,
@@ -18,9 +19,10 @@ pub fn run(
     let id = random.below(CONTENT_RANGE);
     let other = (tenant_of(id) + random.between(1, TENANTS - 1)) % TENANTS;
     let ids = [id, moved(id, other)];
+    let salt = random.below(SALT_RANGE);
     let calls = alphabet(servers, &ids);
     let medium_len = 3 * servers as usize;
-    let mut compare = |list: &[Call]| run_blank(1, medium_len, list, tally);
+    let mut compare = |list: &[Call]| run_blank([1, salt], medium_len, list, tally);
     for choice in 0..1 << servers {
         let added: Vec<Call> = (0..servers).map(|k| added(choice >> k & 1)).collect();
         every_list(&added, &calls, depth, &mut compare)?;

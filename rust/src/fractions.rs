@@ -6,11 +6,12 @@ use crate::differ::{run_blank, run_picks, Difference, Lent, Tally};
 use crate::lists::Shape;
 use crate::placement::{step, Fraction};
 use crate::random::Random;
+use crate::salts;
 
-/// The id that has this draw on a server, if it is in range and the draw is not 0.
-fn id_with_draw(draw: u32, server: usize) -> Option<u32> {
+/// The id that has this draw on a server under a salt, if it is in range and the draw is not 0.
+fn id_with_draw(draw: u32, salt: u32, server: usize) -> Option<u32> {
     let seed = round_back(round_back(round_back(draw)));
-    let id = seed.wrapping_sub(step(server));
+    let id = seed.wrapping_sub(step(server)).wrapping_sub(salt);
     (draw != 0 && id < CONTENT_RANGE).then_some(id)
 }
 
@@ -39,15 +40,17 @@ pub fn on_fraction(random: &mut Random, tally: &mut Tally) -> Result<(), Differe
     let fraction = Fraction::new(weight, factor << power);
     let weights = weights_with(random, server, fraction);
     let draw = draw_on(fraction).expect("a power of two");
+    let salt = salts::salt(random);
     let ids: Vec<u32> = [draw - 1, draw, draw, draw + 1]
         .into_iter()
-        .filter_map(|draw| id_with_draw(draw, server as usize))
+        .filter_map(|draw| id_with_draw(draw, salt, server as usize))
         .collect();
     if ids.is_empty() {
         return Ok(());
     }
     let shape = Shape {
         capacity: *weights.iter().max().expect("not empty"),
+        salt,
         servers: server + 1,
         ids,
     };
@@ -61,8 +64,8 @@ pub fn on_fraction(random: &mut Random, tally: &mut Tally) -> Result<(), Differe
         list.push(Call::lookup(id));
     }
     list.extend((0..20).map(|_| shape.call(random)));
-    run_blank(shape.capacity, medium_len, &list, tally)?;
-    run_picks(&weights, &shape.ids, shape.ids.len(), tally)
+    run_blank(shape.start(), medium_len, &list, tally)?;
+    run_picks(&weights, salt, &shape.ids, shape.ids.len(), tally)
 }
 
 /// Weights whose last makes this WriteP.
@@ -97,13 +100,12 @@ pub fn near_fraction(random: &mut Random, tally: &mut Tally) -> Result<(), Diffe
         )
     };
     let server = random.between(1, 7) as usize;
-    let Some(id) = id_with_draw(draw as u32, server) else {
+    let salt = salts::salt(random);
+    let Some(id) = id_with_draw(draw as u32, salt, server) else {
         return Ok(());
     };
-    let mut lent = Lent::new(
-        &with_read_p(server, numerator, denominator),
-        vec![BLANK; 3 * (server + 1)],
-    );
+    let table = with_read_p(salt, server, Fraction::new(numerator, denominator));
+    let mut lent = Lent::new(&table, vec![BLANK; 3 * (server + 1)]);
     let list = [
         Call::lookup(id),
         Call::write(id, 1),
@@ -123,13 +125,13 @@ fn inverse_of_modulus(denominator: u32) -> u32 {
 }
 
 /// A table of capacity 1 whose highest server has weight 0 and this ReadP.
-fn with_read_p(server: usize, numerator: u32, denominator: u32) -> Table {
-    let mut table = Table::start(1).expect("in range");
+fn with_read_p(salt: u32, server: usize, read_p: Fraction) -> Table {
+    let mut table = Table::start(1, salt).expect("in range");
     let medium = vec![BLANK; 3 * (server + 1)];
     for _ in 0..=server {
         table.add_server(&medium, 0).expect("blank");
     }
-    table.read_numerators[server] = numerator;
-    table.read_denominators[server] = denominator;
+    table.read_numerators[server] = read_p.numerator;
+    table.read_denominators[server] = read_p.denominator;
     table
 }

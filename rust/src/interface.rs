@@ -7,6 +7,7 @@ use crate::calls::{encode, Call, Reply, Resume, CALL_WORDS, REPLY_WORDS, TABLE_W
 use crate::differ::{compare_words, Difference, Lent, Tally, UNREAD, UNSTORED};
 use crate::lists::Shape;
 use crate::random::Random;
+use crate::salts;
 use crate::suites::{any_table, damage, EDGES};
 use ticket_archive::{functions as proved, Archive, Refusal};
 
@@ -114,7 +115,7 @@ pub fn one_by_one(random: &mut Random, tally: &mut Tally) -> Result<(), Differen
         shape.servers = random.between(250, 257);
         list = vec![Call::AddServer { weight: 1 }; shape.servers as usize];
     }
-    let table = Table::start(shape.capacity).expect("in range");
+    let table = shape.table();
     let mut lent = Lent::new(&table, vec![BLANK; shape.medium_len(random)]);
     match random.below(8) {
         0 | 1 => damage(random, &shape, &mut lent.medium),
@@ -132,13 +133,13 @@ pub fn one_by_one(random: &mut Random, tally: &mut Tally) -> Result<(), Differen
 }
 
 /// `archive_start` against the Rust implementation: the number and every word.
-fn start(capacity: u32, length: usize) -> Result<(), Difference> {
+pub fn start(capacity: u32, salt: u32, length: usize) -> Result<(), Difference> {
     let mut table = vec![UNSTORED; length];
-    let number = proved::start(capacity, &mut table);
+    let number = proved::start(capacity, salt, &mut table);
     let mut expected = vec![UNSTORED; length];
     let told = match expected.first_chunk_mut() {
         None => SHORT,
-        Some(words) => match Table::start(capacity) {
+        Some(words) => match Table::start(capacity, salt) {
             Ok(table) => {
                 table.store(words);
                 0
@@ -151,7 +152,7 @@ fn start(capacity: u32, length: usize) -> Result<(), Difference> {
     };
     compare_words("start", &[number], &[told])
         .and_then(|()| compare_words("started table", &table, &expected))
-        .map_err(|text| format!("capacity {capacity}, {length} words: {text}"))
+        .map_err(|text| format!("capacity {capacity}, salt {salt}, {length} words: {text}"))
 }
 
 /// The run without its last word, or now and then without more.
@@ -206,7 +207,7 @@ fn short_resume(random: &mut Random, lent: &Lent, list: &[Call]) -> Result<(), D
 /// Each run of each function in turn too short; what a batch does then is among the batches.
 pub fn short_runs(random: &mut Random, tally: &mut Tally) -> Result<(), Difference> {
     let shape = Shape::random(random, 8, 6);
-    let table = Table::start(shape.capacity).expect("in range");
+    let table = shape.table();
     let mut lent = Lent::new(&table, vec![BLANK; shape.medium_len(random)]);
     lent.run(&shape.list(random, 20), tally)?;
     let list = shape.list(random, 4);
@@ -218,8 +219,9 @@ pub fn short_runs(random: &mut Random, tally: &mut Tally) -> Result<(), Differen
         0 => random.pick(&EDGES),
         _ => shape.capacity,
     };
+    let salt = salts::any(random);
     for length in [0, TABLE_WORDS - 1, TABLE_WORDS, TABLE_WORDS + 3] {
-        start(capacity, length)?;
+        start(capacity, salt, length)?;
     }
     tally.short_runs += 3 * list.len() as u64 + 3;
     tally.starts += 2;

@@ -1,6 +1,6 @@
-//! The plain ledger of document 01 with the tenants of document 02: fed the capacity, the medium's
-//! length and the arguments of the calls, and nothing from a table or a medium. Everything is
-//! worked out anew from its lists.
+//! The plain ledger of document 01 with the tenants and the salt of document 02: fed the capacity,
+//! the salt, the medium's length and the arguments of the calls, and nothing from a table or a
+//! medium. Everything is worked out anew from its lists.
 
 use crate::archive::{Refusal, CONTENT_RANGE};
 use crate::calls::{Call, Reply};
@@ -19,6 +19,7 @@ struct Standing {
 
 pub struct Ledger {
     capacity: u32,
+    salt: u32,
     medium_len: usize,
     weights: Vec<u32>,
     greatest: Vec<Fraction>,
@@ -26,9 +27,10 @@ pub struct Ledger {
 }
 
 impl Ledger {
-    pub fn new(capacity: u32, medium_len: usize) -> Self {
+    pub fn new(capacity: u32, salt: u32, medium_len: usize) -> Self {
         Ledger {
             capacity,
+            salt,
             medium_len,
             weights: Vec::new(),
             greatest: Vec::new(),
@@ -163,8 +165,12 @@ impl Ledger {
         Fraction::new(self.weights[server], self.weights[..=server].iter().sum())
     }
 
+    fn draw(&self, id: u32, server: usize) -> u32 {
+        draw(self.salt, id, server)
+    }
+
     fn write_server(&self, id: u32) -> usize {
-        let exceeds = |&server: &usize| self.write_p(server).exceeds(draw(id, server));
+        let exceeds = |&server: &usize| self.write_p(server).exceeds(self.draw(id, server));
         let servers = 0..self.weights.len();
         servers.rev().find(exceeds).expect("server 0 exceeds")
     }
@@ -189,7 +195,7 @@ impl Ledger {
 
     /// How many servers from `lowest` upward have a greatest WriteP that exceeds the draw.
     fn readable_from(&self, lowest: usize, id: u32) -> u32 {
-        let exceeds = |&server: &usize| self.greatest[server].exceeds(draw(id, server));
+        let exceeds = |&server: &usize| self.greatest[server].exceeds(self.draw(id, server));
         (lowest..self.weights.len()).filter(exceeds).count() as u32
     }
 }

@@ -1,13 +1,15 @@
 //! Random calls over a small archive, with arguments at the edges of their ranges.
 
-use crate::archive::{tenant_of, CONTENT_RANGE, TENANTS};
+use crate::archive::{tenant_of, Table, CONTENT_RANGE, TENANTS};
 use crate::calls::Call;
 use crate::placement::step;
 use crate::random::Random;
+use crate::salts;
 
 /// What the calls of one list are drawn from.
 pub struct Shape {
     pub capacity: u32,
+    pub salt: u32,
     pub servers: u32,
     pub ids: Vec<u32>,
 }
@@ -18,6 +20,7 @@ impl Shape {
         let servers = random.between(1, max_servers);
         let mut shape = Shape {
             capacity,
+            salt: salts::salt(random),
             servers,
             ids: Vec::new(),
         };
@@ -133,10 +136,27 @@ impl Shape {
             1 => u32::MAX,
             2 => CONTENT_RANGE - 1,
             3 => random.below(CONTENT_RANGE),
-            4 | 5 => id_of_seed_0(random.below(self.servers)).unwrap_or(0),
+            4 | 5 => self.id_of_seed_0(random).unwrap_or(0),
             6 => tenant_edge(random),
             _ => random.pick(&self.ids),
         }
+    }
+
+    /// The id whose seed on one of the servers would be 0, if it is in range.
+    fn id_of_seed_0(&self, random: &mut Random) -> Option<u32> {
+        let server = random.below(self.servers) as usize;
+        let id = step(server).wrapping_add(self.salt).wrapping_neg();
+        (id < CONTENT_RANGE).then_some(id)
+    }
+
+    /// The capacity and the salt that the list starts with.
+    pub fn start(&self) -> [u32; 2] {
+        [self.capacity, self.salt]
+    }
+
+    /// A table of no server for these calls.
+    pub fn table(&self) -> Table {
+        Table::start(self.capacity, self.salt).expect("in range")
     }
 }
 
@@ -191,10 +211,4 @@ fn no_call(random: &mut Random) -> Call {
         _ => random.between(7, 1 << 20),
     };
     Call::None { number }
-}
-
-/// The id whose seed on a server would be 0, if it is in range.
-fn id_of_seed_0(server: u32) -> Option<u32> {
-    let id = step(server as usize).wrapping_neg();
-    (id < CONTENT_RANGE).then_some(id)
 }

@@ -19,9 +19,11 @@ mod paper_tests;
 mod placement;
 mod random;
 mod rows;
+mod salts;
 mod scene;
 mod scenes;
 mod suites;
+mod unsalted;
 
 use std::process::ExitCode;
 use std::time::Instant;
@@ -102,13 +104,23 @@ fn test(options: &Options) -> ExitCode {
         Ok(()) => {
             report(&tally);
             println!("no difference in {:.1} s", began.elapsed().as_secs_f64());
-            ExitCode::SUCCESS
+            met_salts(&tally, calls)
         }
         Err(difference) => {
             println!("DIFFERENCE (seed {seed}, calls {calls}, batches {batches})\n{difference}");
             ExitCode::FAILURE
         }
     }
+}
+
+/// Fails where a salt at an edge was not met often enough for a difference to show.
+fn met_salts(tally: &Tally, calls: u64) -> ExitCode {
+    let missed = tally.by_salt.missed(calls);
+    if missed.is_empty() {
+        return ExitCode::SUCCESS;
+    }
+    println!("TOO FEW CALLS under the salts {missed:?}");
+    ExitCode::FAILURE
 }
 
 /// Runs a suite until it has met so many of what is counted; answers how many it met.
@@ -183,6 +195,8 @@ fn report(tally: &Tally) {
         println!("refusal {number}: {met}");
     }
     println!("no call: {}", tally.no_calls);
+    println!("calls by salt: {}", tally.by_salt);
+    println!("calls not run for their salt: {}", tally.not_run);
     println!("picks: {}", tally.picks);
     println!("calls one at a time: {}", tally.single_calls);
     println!(

@@ -46,7 +46,8 @@ impl History {
         let mut table = vec![0; TABLE_WORDS];
         let mut medium = vec![BLANK; medium_len];
         let mut replies = vec![UNSTORED; REPLY_WORDS * list.len()];
-        proved::start(neighbours.shape.capacity, &mut table);
+        let [capacity, salt] = neighbours.shape.start();
+        proved::start(capacity, salt, &mut table);
         let calls = encode(&list, UNREAD);
         let ran = proved::resume(&mut table, &calls, &mut medium, &mut replies);
         assert_eq!(ran, list.len());
@@ -195,8 +196,8 @@ pub fn pair(random: &mut Random, tally: &mut Tally) -> Result<(), Difference> {
     let tenant = neighbours.tenant;
     let described = |text: String| {
         let lists = [&one, &other].map(|history| (history.medium.len(), &history.list));
-        let capacity = shape.capacity;
-        format!("tenant {tenant}, capacity {capacity}: {text}\nmedia and lists {lists:#?}\n")
+        let [capacity, salt] = shape.start();
+        format!("tenant {tenant}, capacity {capacity}, salt {salt}: {text}\nmedia and lists {lists:#?}\n")
     };
     for (at, &call) in common.iter().enumerate() {
         let [one, other] = [one.reply(at), other.reply(at)];

@@ -1,10 +1,10 @@
-//! The known draws, the edges and the example of document 01 and the tenants of document 02, on
-//! the Rust implementation and the ledger alone.
+//! The known draws, the edges and the example of document 01 and the tenants and salts of document
+//! 02, on the Rust implementation and the ledger alone.
 
 use crate::archive::{tenant_of, Refusal, Table, BLANK};
 use crate::calls::{Call, Reply};
 use crate::ledger::Ledger;
-use crate::placement::{draw, round, step, write_server};
+use crate::placement::{draw, picks, round, step, write_server};
 
 #[test]
 fn known_draws() {
@@ -13,8 +13,27 @@ fn known_draws() {
     assert_eq!(round(1), 270_369);
     assert_eq!(round(round(1)), 67_634_689);
     assert_eq!(round(round(round(1))), 2_647_435_461);
-    assert_eq!(draw(626_627_286, 2), 2_647_435_461);
-    assert_eq!(draw(626_627_285, 2), 2_647_435_461);
+    assert_eq!(draw(0, 626_627_286, 2), 2_647_435_461);
+    assert_eq!(draw(0, 626_627_285, 2), 2_647_435_461);
+}
+
+/// Salts up to the greatest under which an id has the draws of the known one.
+const SALTS: [u32; 5] = [0, 1, 12_345, 626_627_285, 626_627_286];
+
+#[test]
+fn salted_draws() {
+    for salt in SALTS.into_iter().chain([1_073_741_823]) {
+        for id in [0, 1, 1001, 626_627_286, 1_073_741_823] {
+            for server in 0..256 {
+                assert_eq!(draw(salt, id, server), draw(0, id + salt, server));
+            }
+        }
+        let seed_0 = step(2).wrapping_add(salt).wrapping_neg();
+        assert_eq!(draw(salt, seed_0, 2), 2_647_435_461);
+        assert_eq!(draw(salt, seed_0.wrapping_add(1), 2), 2_647_435_461);
+    }
+    assert_eq!(draw(12_345, 626_627_285 - 12_345, 2), 2_647_435_461);
+    assert_eq!(draw(626_627_285, 0, 2), 2_647_435_461);
 }
 
 #[test]
@@ -26,14 +45,22 @@ fn known_picks() {
         ([0, 0, 0], 0),
     ];
     for (weights, server) in cases {
-        assert_eq!(write_server(&weights, 626_627_286), server);
+        for salt in SALTS {
+            assert_eq!(write_server(&weights, salt, 626_627_286 - salt), server);
+        }
+        assert_eq!(picks(&weights, 1 << 30, &[1], &mut [9]), 0);
     }
 }
 
+/// The id of the example; under a salt the one that has the same draws.
+fn known_id(salt: u32) -> u32 {
+    626_627_286 - salt
+}
+
 /// The lines of the example as calls and the numbers they print.
-fn example() -> [(Call, Reply); 10] {
-    let id = 626_627_286;
-    let tenant = 4;
+fn example(salt: u32) -> [(Call, Reply); 10] {
+    let id = known_id(salt);
+    let tenant = tenant_of(id);
     let write = |value| Call::Write { tenant, id, value };
     let lookup = Call::Lookup { tenant, id };
     let reply = |refusal, server, value, opened, invalidated| Reply {
@@ -63,32 +90,37 @@ fn example() -> [(Call, Reply); 10] {
 
 #[test]
 fn example_on_the_archive() {
-    let mut table = Table::start(4).expect("in range");
-    let mut medium = vec![BLANK; 3_072];
-    for (call, reply) in example() {
-        assert_eq!(table.run(&mut medium, call), reply, "{call:?}");
+    for salt in SALTS {
+        let mut table = Table::start(4, salt).expect("in range");
+        let mut medium = vec![BLANK; 3_072];
+        for (call, reply) in example(salt) {
+            assert_eq!(table.run(&mut medium, call), reply, "{call:?}");
+        }
+        let id = known_id(salt);
+        assert_eq!(medium[24..27], [id, 1_073_742_324, 2_147_483_649]);
     }
-    assert_eq!(medium[24..27], [626_627_286, 1_073_742_324, 2_147_483_649]);
 }
 
 #[test]
 fn example_on_the_ledger() {
-    let mut ledger = Ledger::new(4, 3_072);
-    for (call, reply) in example() {
-        let expected = Reply {
-            invalidated: 0,
-            ..reply
-        };
-        assert_eq!(ledger.enter(call), expected, "{call:?}");
+    for salt in SALTS {
+        let mut ledger = Ledger::new(4, salt, 3_072);
+        for (call, reply) in example(salt) {
+            let expected = Reply {
+                invalidated: 0,
+                ..reply
+            };
+            assert_eq!(ledger.enter(call), expected, "{call:?}");
+        }
     }
 }
 
 #[test]
 fn batch() {
-    let id = 626_627_286;
-    let mut table = Table::start(4).expect("in range");
+    let id = known_id(0);
+    let mut table = Table::start(4, 0).expect("in range");
     let mut medium = vec![BLANK; 36];
-    for (call, _) in example().into_iter().take(4) {
+    for (call, _) in example(0).into_iter().take(4) {
         table.run(&mut medium, call);
     }
     assert_eq!(table.opens(&medium, 4, id), [2]);
@@ -120,8 +152,8 @@ fn tenants() {
     ];
     for (id, tenant) in known {
         assert_eq!(tenant_of(id), tenant);
-        let mut ledger = Ledger::new(1, 3);
-        let mut table = Table::start(1).expect("in range");
+        let mut ledger = Ledger::new(1, 0, 3);
+        let mut table = Table::start(1, 0).expect("in range");
         let mut medium = vec![BLANK; 3];
         for caller in 0..9 {
             let refusal = match caller {
@@ -137,10 +169,20 @@ fn tenants() {
 }
 
 #[test]
+fn salts() {
+    for salt in [1_073_741_824, u32::MAX] {
+        assert_eq!(Table::start(1, salt), Err(Refusal::OutOfRange));
+        let mut table = Table::start(1, 1_073_741_823).expect("in range");
+        table.salt = salt;
+        assert_eq!(table.add_server(&[BLANK; 3], 1), Err(Refusal::Unsound));
+    }
+}
+
+#[test]
 fn edges() {
-    assert_eq!(Table::start(0), Err(Refusal::OutOfRange));
-    assert_eq!(Table::start(65_537), Err(Refusal::OutOfRange));
-    let mut table = Table::start(1).expect("in range");
+    assert_eq!(Table::start(0, 0), Err(Refusal::OutOfRange));
+    assert_eq!(Table::start(65_537, 0), Err(Refusal::OutOfRange));
+    let mut table = Table::start(1, 0).expect("in range");
     let mut medium = vec![BLANK; 3 * 257];
     for server in 0..256 {
         assert_eq!(table.add_server(&medium, 0), Ok(server));

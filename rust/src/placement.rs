@@ -3,6 +3,9 @@
 pub const MAX_SERVERS: usize = 256;
 pub const MAX_CAPACITY: u32 = 65_536;
 
+/// The salts are those below this.
+pub const SALT_RANGE: u32 = 1 << 30;
+
 /// The constant of each server that is added to an id.
 pub fn step(server: usize) -> u32 {
     (server as u32).wrapping_add(1).wrapping_mul(2_654_435_769)
@@ -15,8 +18,9 @@ pub fn round(mut s: u32) -> u32 {
     s ^ (s << 5)
 }
 
-pub fn draw(id: u32, server: usize) -> u32 {
-    let seed = id.wrapping_add(step(server)).max(1);
+/// The draw of an id on a server, in an archive with this salt.
+pub fn draw(salt: u32, id: u32, server: usize) -> u32 {
+    let seed = id.wrapping_add(step(server)).wrapping_add(salt).max(1);
     round(round(round(seed)))
 }
 
@@ -59,10 +63,10 @@ pub fn share(server: usize, weight: u32, sum: u32) -> Fraction {
 }
 
 /// The highest server whose WriteP exceeds its draw. The weights are at most 65,536 each.
-pub fn write_server(weights: &[u32], id: u32) -> usize {
+pub fn write_server(weights: &[u32], salt: u32, id: u32) -> usize {
     let mut sum: u32 = weights.iter().sum();
     for (server, &weight) in weights.iter().enumerate().skip(1).rev() {
-        if Fraction::new(weight, sum).exceeds(draw(id, server)) {
+        if Fraction::new(weight, sum).exceeds(draw(salt, id, server)) {
             return server;
         }
         sum -= weight;
@@ -71,13 +75,16 @@ pub fn write_server(weights: &[u32], id: u32) -> usize {
 }
 
 /// Picks the write server of each id; answers how many were picked.
-pub fn picks(weights: &[u32], ids: &[u32], servers: &mut [u32]) -> usize {
+pub fn picks(weights: &[u32], salt: u32, ids: &[u32], servers: &mut [u32]) -> usize {
     let count = weights.len();
     if count == 0 || count > MAX_SERVERS || weights.iter().any(|&w| w > MAX_CAPACITY) {
         return 0;
     }
+    if salt >= SALT_RANGE {
+        return 0;
+    }
     for (&id, server) in ids.iter().zip(servers.iter_mut()) {
-        *server = write_server(weights, id) as u32;
+        *server = write_server(weights, salt, id) as u32;
     }
     ids.len().min(servers.len())
 }

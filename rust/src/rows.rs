@@ -5,6 +5,7 @@ use crate::calls::{Call, CALL_WORDS, REFUSAL, REPLY_WORDS};
 use crate::differ::{compare_words, Difference, Lent, Tally, UNREAD, UNSTORED};
 use crate::lists::no_tenant;
 use crate::random::Random;
+use crate::salts;
 use ticket_archive::functions as proved;
 
 /// What the three calls of a tenant are made of.
@@ -65,13 +66,13 @@ pub fn in_order(random: &mut Random, tally: &mut Tally) -> Result<(), Difference
     let capacity = random.between(1, 4);
     let count = random.below(3);
     let mut medium = vec![BLANK; (3 * capacity * count) as usize];
-    let mut table = Table::start(capacity).expect("in range");
+    let mut table = Table::start(capacity, salts::salt(random)).expect("in range");
     for _ in 0..count {
         table.add_server(&medium, capacity).expect("blank");
     }
     let is_unsound = random.one_in(4);
     if is_unsound {
-        table.capacity = random.pick(&[0, 65_537, u32::MAX]);
+        make_unsound(random, &mut table);
     }
     let is_short = random.one_in(2) && medium.pop().is_some();
     let mut asked = Asked::random(random);
@@ -101,8 +102,16 @@ pub fn in_order(random: &mut Random, tally: &mut Tally) -> Result<(), Difference
     lent.run(&asked.calls(), tally)
 }
 
+/// Puts the capacity or the salt out of range.
+fn make_unsound(random: &mut Random, table: &mut Table) {
+    match random.one_in(2) {
+        true => table.capacity = random.pick(&[0, 65_537, u32::MAX]),
+        false => table.salt = salts::no_salt(random),
+    }
+}
+
 /// The proved call gives this number and zeros, and changes nothing.
-fn refused_by(lent: &Lent, call: Call, number: u32) -> Result<(), Difference> {
+pub fn refused_by(lent: &Lent, call: Call, number: u32) -> Result<(), Difference> {
     let mut expected = [0; REPLY_WORDS];
     expected[REFUSAL] = number;
     let (mut table, mut medium) = (lent.table.clone(), lent.medium.clone());
@@ -116,7 +125,7 @@ fn refused_by(lent: &Lent, call: Call, number: u32) -> Result<(), Difference> {
 }
 
 /// The proved batch of this id gives it the number and zeros, and opens no server.
-fn id_refused_by(lent: &Lent, tenant: u32, id: u32, number: u32) -> Result<(), Difference> {
+pub fn id_refused_by(lent: &Lent, tenant: u32, id: u32, number: u32) -> Result<(), Difference> {
     let mut expected = [0; REPLY_WORDS + 2];
     expected[REFUSAL] = number;
     let mut told = [UNSTORED; REPLY_WORDS + 2];

@@ -15,9 +15,13 @@ pub enum Side {
 
 enum Work {
     /// The write server of each id: proved, and in Rust.
-    Picks { weights: Vec<u32>, ids: Vec<u32> },
+    Picks {
+        weights: Vec<u32>,
+        salt: u32,
+        ids: Vec<u32>,
+    },
     /// A list from a start on blank words: proved, and in Rust.
-    Replay { capacity: u32, calls: Vec<u32> },
+    Replay { start: [u32; 2], calls: Vec<u32> },
     /// A list on a table and a medium that are there: proved, and in Rust.
     Resume { table: Vec<u32>, calls: Vec<u32> },
     /// The same by the proved code alone: each call lent alone, and all in one list.
@@ -51,14 +55,16 @@ pub struct Scene {
 }
 
 impl Scene {
-    pub fn picks(weights: Vec<u32>, ids: Vec<u32>) -> Self {
+    pub fn picks(weights: Vec<u32>, salt: u32, ids: Vec<u32>) -> Self {
         let calls = ids.len();
-        Scene::new(Work::Picks { weights, ids }, Vec::new(), calls, calls)
+        let work = Work::Picks { weights, salt, ids };
+        Scene::new(work, Vec::new(), calls, calls)
     }
 
-    pub fn replay(capacity: u32, medium_len: usize, list: &[Call]) -> Self {
+    /// A list from a start with this capacity and salt.
+    pub fn replay(start: [u32; 2], medium_len: usize, list: &[Call]) -> Self {
         let work = Work::Replay {
-            capacity,
+            start,
             calls: encode(list, 0),
         };
         let answers = list.len() * REPLY_WORDS;
@@ -121,13 +127,19 @@ impl Scene {
         let (table, medium) = (&mut self.table, &mut self.medium);
         let answers = &mut self.answers;
         match (&self.work, side) {
-            (Work::Picks { weights, ids }, Side::First) => proved::picks(weights, ids, answers),
-            (Work::Picks { weights, ids }, Side::Second) => placement::picks(weights, ids, answers),
-            (Work::Replay { capacity, calls }, Side::First) => {
-                proved::replay(*capacity, calls, medium, answers)
+            (Work::Picks { weights, salt, ids }, Side::First) => {
+                proved::picks(weights, *salt, ids, answers)
             }
-            (Work::Replay { capacity, calls }, Side::Second) => {
-                calls::replay(*capacity, calls, medium, answers)
+            (Work::Picks { weights, salt, ids }, Side::Second) => {
+                placement::picks(weights, *salt, ids, answers)
+            }
+            (Work::Replay { start, calls }, Side::First) => {
+                let [capacity, salt] = *start;
+                proved::replay(capacity, salt, calls, medium, answers)
+            }
+            (Work::Replay { start, calls }, Side::Second) => {
+                let [capacity, salt] = *start;
+                calls::replay(capacity, salt, calls, medium, answers)
             }
             (Work::Resume { calls, .. }, Side::First)
             | (Work::Calls { calls, .. }, Side::Second) => {

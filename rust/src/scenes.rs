@@ -126,11 +126,14 @@ const BATCHES: [Entry; 6] = [
     }),
 ];
 
+/// The salt of every scene: 0, under which ids go where they went before there were salts.
+const SALT: u32 = 0;
+
 fn pick_256() -> Scene {
     let mut random = Random::new(1);
     let weights = (0..256).map(|_| random.between(1, MAX_CAPACITY)).collect();
     let ids = (0..20_000).map(|_| random.below(CONTENT_RANGE)).collect();
-    Scene::picks(weights, ids)
+    Scene::picks(weights, SALT, ids)
 }
 
 const ENTRIES: u32 = 4_096;
@@ -142,7 +145,7 @@ const FEW: u32 = 32;
 fn filled(random: &mut Random, servers: usize, entries: u32, used: u32) -> (Table, Vec<u32>) {
     let words = 3 * entries as usize;
     let mut medium = vec![BLANK; words * servers];
-    let mut table = Table::start(entries).expect("in range");
+    let mut table = Table::start(entries, SALT).expect("in range");
     for server in 0..servers {
         table.add_server(&medium, entries).expect("blank");
         table.used[server] = used;
@@ -163,7 +166,7 @@ fn fresh_id(random: &mut Random, class: u32) -> u32 {
 
 /// Puts an id in place of a filling of its write server.
 fn place(random: &mut Random, table: &Table, medium: &mut [u32], id: u32) {
-    let server = write_server(&table.weights[..table.count as usize], id);
+    let server = write_server(&table.weights[..table.count as usize], table.salt, id);
     loop {
         let entry = random.below(table.used[server]);
         let at = 3 * (table.capacity as usize * server + entry as usize);
@@ -278,7 +281,8 @@ fn add_server() -> Scene {
     let list = [Call::AddServer {
         weight: MAX_CAPACITY,
     }; 8];
-    Scene::replay(MAX_CAPACITY, 8 * 3 * MAX_CAPACITY as usize, &list)
+    let medium_len = 8 * 3 * MAX_CAPACITY as usize;
+    Scene::replay([MAX_CAPACITY, SALT], medium_len, &list)
 }
 
 const MIXED_CALLS: u32 = 100_000;
@@ -310,5 +314,5 @@ fn mixed(servers: u32, capacity: u32) -> Scene {
             Call::lookup(id)
         });
     }
-    Scene::replay(capacity, (3 * entries) as usize, &list)
+    Scene::replay([capacity, SALT], (3 * entries) as usize, &list)
 }

@@ -1,19 +1,23 @@
 //! The kinds of lists that are compared.
 
-use crate::archive::{tenant_of, Table, BLANK, CONTENT_RANGE, TENANTS};
-use crate::calls::{Call, TABLE_WORDS};
-use crate::differ::{run_blank, run_picks, run_replay, Difference, Encoded, Lent, Tally};
+use crate::archive::{tenant_of, BLANK, CONTENT_RANGE, TENANTS};
+use crate::calls::{table_word, Call, CAPACITY, COUNT, SALT, TABLE_WORDS};
+use crate::differ::{compare_words, run_blank, run_picks, run_replay, Encoded, UNSTORED};
+use crate::differ::{Difference, Lent, Tally};
 use crate::fractions::{near_fraction, on_fraction};
 use crate::lists::{no_tenant, Shape};
 use crate::placement::{MAX_CAPACITY, MAX_SERVERS};
 use crate::random::Random;
 use crate::rows;
+use crate::salts;
+use crate::unsalted;
+use ticket_archive::functions as proved;
 
 /// One list, or a few that belong together, from a generator of its own.
 pub type Suite = fn(&mut Random, &mut Tally) -> Result<(), Difference>;
 
 /// Each suite with its share of the calls asked for, in percent.
-pub const SUITES: [(&str, Suite, u64); 7] = [
+pub const SUITES: [(&str, Suite, u64); 8] = [
     ("blank media", blank, 40),
     ("damaged media", damaged, 15),
     ("altered tables", altered, 15),
@@ -21,6 +25,7 @@ pub const SUITES: [(&str, Suite, u64); 7] = [
     ("draws on a fraction", on_fraction, 10),
     ("draws next to a fraction", near_fraction, 5),
     ("refusal edges", edges, 5),
+    ("salts out of range", unsalted::out_of_range, 15),
 ];
 
 fn blank(random: &mut Random, tally: &mut Tally) -> Result<(), Difference> {
@@ -32,7 +37,7 @@ fn blank(random: &mut Random, tally: &mut Tally) -> Result<(), Difference> {
     let length = random.between(1, 400) as usize;
     let medium_len = shape.medium_len(random);
     let list = shape.list(random, length);
-    run_blank(shape.capacity, medium_len, &list, tally)
+    run_blank(shape.start(), medium_len, &list, tally)
 }
 
 /// A word that a medium might hold: a whole one, a wrong kind or anything.
@@ -61,9 +66,9 @@ fn damaged(random: &mut Random, tally: &mut Tally) -> Result<(), Difference> {
     if random.one_in(4) {
         damage(random, &shape, &mut medium);
         let list = shape.list(random, 100);
-        return run_replay(shape.capacity, &medium, &list, &Encoded::new(&list), tally);
+        return run_replay(shape.start(), &medium, &list, &Encoded::new(&list), tally);
     }
-    let table = Table::start(shape.capacity).expect("in range");
+    let table = shape.table();
     let mut lent = Lent::new(&table, medium);
     lent.run(&shape.list(random, 12), tally)?;
     for _ in 0..random.between(1, 24) {
@@ -79,7 +84,7 @@ fn damaged(random: &mut Random, tally: &mut Tally) -> Result<(), Difference> {
 fn altered(random: &mut Random, tally: &mut Tally) -> Result<(), Difference> {
     let shape = Shape::random(random, 6, 6);
     let medium = vec![BLANK; shape.medium_len(random)];
-    let table = Table::start(shape.capacity).expect("in range");
+    let table = shape.table();
     let mut lent = Lent::new(&table, medium);
     lent.run(&shape.list(random, 12), tally)?;
     let mut older = lent.table.clone();
@@ -112,44 +117,45 @@ fn table_number(random: &mut Random, shape: &Shape) -> u32 {
     }
 }
 
-/// Alters one word among those that are read, or the count, or the capacity.
+/// Alters one word among those that are read, or the count, the capacity or the salt.
 pub fn alter(random: &mut Random, shape: &Shape, table: &mut [u32]) {
     let number = table_number(random, shape);
-    let count = table[1].clamp(1, MAX_SERVERS as u32);
-    let at = match random.below(8) {
-        0 => 0,
-        1 => 1,
+    let count = table[COUNT].clamp(1, MAX_SERVERS as u32);
+    match random.below(9) {
+        0 => table[CAPACITY] = number,
+        1 => table[COUNT] = number,
+        2 => table[SALT] = salts::any(random),
         part => {
             let server = random.below(count) as usize;
-            2 + (part as usize % 4) * MAX_SERVERS + server
+            table[table_word(part as usize % 4, server)] = number;
         }
-    };
-    table[at] = number;
+    }
 }
 
 /// Says that a server used another number of entries than it did.
 pub fn raise_used(random: &mut Random, table: &mut [u32]) {
-    let capacity = table[0].min(MAX_CAPACITY);
-    let count = table[1].clamp(1, MAX_SERVERS as u32);
+    let capacity = table[CAPACITY].min(MAX_CAPACITY);
+    let count = table[COUNT].clamp(1, MAX_SERVERS as u32);
     let server = random.below(count) as usize;
-    table[2 + MAX_SERVERS + server] = random.below(capacity + 1);
+    table[table_word(1, server)] = random.below(capacity + 1);
 }
 
 /// A table of any words, of which some are sound: weights and used in range, ReadP near 1.
 pub fn any_table(random: &mut Random, shape: &Shape) -> Vec<u32> {
     let mut table = vec![0; TABLE_WORDS];
-    table[0] = shape.capacity;
-    table[1] = random.below(shape.servers + 1);
+    table[CAPACITY] = shape.capacity;
+    table[SALT] = salts::salt(random);
+    table[COUNT] = random.below(shape.servers + 1);
     for server in 0..MAX_SERVERS {
         let denominator = match random.below(4) {
             0 => 1 << 24,
             _ => random.between(1, 12),
         };
         let below = if server == 0 { 0 } else { random.below(4) };
-        table[2 + server] = random.below(shape.capacity + 1);
-        table[2 + MAX_SERVERS + server] = random.below(shape.capacity + 1);
-        table[2 + 2 * MAX_SERVERS + server] = denominator - below.min(denominator);
-        table[2 + 3 * MAX_SERVERS + server] = denominator;
+        table[table_word(0, server)] = random.below(shape.capacity + 1);
+        table[table_word(1, server)] = random.below(shape.capacity + 1);
+        table[table_word(2, server)] = denominator - below.min(denominator);
+        table[table_word(3, server)] = denominator;
     }
     if random.one_in(4) {
         alter(random, shape, &mut table);
@@ -168,7 +174,7 @@ fn many_servers(random: &mut Random, tally: &mut Tally) -> Result<(), Difference
         })
         .collect();
     list.extend((0..1_000).map(|_| shape.call(random)));
-    run_blank(shape.capacity, medium_len, &list, tally)
+    run_blank(shape.start(), medium_len, &list, tally)
 }
 
 pub const EDGES: [u32; 17] = [
@@ -194,6 +200,7 @@ pub const EDGES: [u32; 17] = [
 /// Every argument an edge, capacities at both ends, lengths that hold no whole number of calls.
 fn edges(random: &mut Random, tally: &mut Tally) -> Result<(), Difference> {
     let capacity = random.pick(&EDGES);
+    let salt = random.pick(&EDGES);
     let servers = random.below(3) as usize;
     let slack = random.below(3) as usize;
     let medium = vec![BLANK; 3 * capacity.min(65_537) as usize * servers + slack];
@@ -206,7 +213,7 @@ fn edges(random: &mut Random, tally: &mut Tally) -> Result<(), Difference> {
         .collect();
     let cut = [random.below(18) as usize, random.below(18) as usize];
     let encoded = Encoded::new(&list).cut(cut[0], cut[1]);
-    run_replay(capacity, &medium, &list, &encoded, tally)?;
+    run_replay([capacity, salt], &medium, &list, &encoded, tally)?;
     for _ in 0..20 {
         rows::in_order(random, tally)?;
     }
@@ -244,5 +251,19 @@ fn pick_edges(random: &mut Random, tally: &mut Tally) -> Result<(), Difference> 
         .collect();
     let ids: Vec<u32> = (0..random.below(40)).map(|_| random.word()).collect();
     let room = random.below(40) as usize;
-    run_picks(&weights, &ids, room, tally)
+    run_picks(&weights, salts::salt(random), &ids, room, tally)?;
+    pick_sums(random, &weights, &ids)
+}
+
+/// The proved pick of an id under a salt is that of their sum under salt 0.
+fn pick_sums(random: &mut Random, weights: &[u32], ids: &[u32]) -> Result<(), Difference> {
+    let salt = salts::salt(random);
+    let sums: Vec<u32> = ids.iter().map(|id| id.wrapping_add(salt)).collect();
+    let picked = |salt: u32, ids: &[u32]| {
+        let mut servers = vec![UNSTORED; ids.len()];
+        proved::picks(weights, salt, ids, &mut servers);
+        servers
+    };
+    compare_words("picks of sums", &picked(salt, ids), &picked(0, &sums))
+        .map_err(|text| format!("{text}\nweights {weights:?}\nsalt {salt}, ids {ids:?}\n"))
 }
