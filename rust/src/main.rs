@@ -1,5 +1,5 @@
 //! The proved archive against an independent Rust implementation: differential tests, times and
-//! instruction counts.
+//! instruction counts; and how far salts part archives.
 
 mod archive;
 mod batch;
@@ -22,6 +22,7 @@ mod rows;
 mod salts;
 mod scene;
 mod scenes;
+mod sharing;
 mod suites;
 mod unsalted;
 
@@ -56,6 +57,7 @@ impl Options {
 
 const USAGE: &str = "\
 compare test [--seed N] [--calls N] [--batches N]
+compare salts
 compare time [--only NAME] [--runs N] [--best FILE]
 compare count [--only NAME]
 compare run [--only NAME] [--side proved|Rust|call|list|batch|calls] [--runs N]";
@@ -67,6 +69,7 @@ fn main() -> ExitCode {
     let only = options.text("--only");
     match options.words.first().map(String::as_str) {
         Some("test") => test(&options),
+        Some("salts") => sharing::print(),
         Some("time") => {
             let runs = options.number("--runs", 10);
             bench::time_all(only, runs, options.text("--best"))
