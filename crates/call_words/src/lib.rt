@@ -79,15 +79,16 @@ fn count(words: &mut [u32], number: u32, reply: Reply)
     dispatch::count_write(&mut words[USED_OFFSET..NUMERATORS_OFFSET], number, reply);
 }
 
-// Runs a call by its number on a table lent as words.
+// Runs a call by its number on a table lent as words. The call comes first: so its numbers, the id among them that a scan compares
+// with each entry, are handed over in registers (docs/BENCHMARKS.md).
 pub fn run(
-    table: &mut [u32],
-    steps: &[u32],
-    medium: &mut [u32],
     number: u32,
     tenant: u32,
     subject: u32,
     amount: u32,
+    table: &mut [u32],
+    medium: &mut [u32],
+    steps: &[u32],
 ) -> Reply
     requires { ⌜ tableLength ≤ length (now table) ⌝ }
     requires { ⌜ areSteps (now steps) ≡ true ⌝ }
@@ -130,13 +131,13 @@ pub fn call(table: &mut [u32], medium: &mut [u32], call: &[u32], reply: &mut [u3
     }
     let steps = draws::steps();
     let told = run(
-        table,
-        &steps,
-        medium,
         call[NUMBER_OFFSET],
         call[TENANT_OFFSET],
         call[SUBJECT_OFFSET],
         call[AMOUNT_OFFSET],
+        table,
+        medium,
+        &steps,
     );
     encoding::store(reply, 0, told);
     told.refusal

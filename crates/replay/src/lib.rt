@@ -42,13 +42,13 @@ fn run_calls(
     let mut at: usize = 0;
     while at < end {
         let reply = call_words::run(
-            table,
-            steps,
-            medium,
             calls[at + NUMBER_OFFSET],
             calls[at + TENANT_OFFSET],
             calls[at + SUBJECT_OFFSET],
             calls[at + AMOUNT_OFFSET],
+            table,
+            medium,
+            steps,
         );
         encoding::store(replies, at, reply);
         at += CALL_LENGTH;

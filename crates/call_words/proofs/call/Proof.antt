@@ -79,11 +79,11 @@ call-spec =
     returns-2
     returns-3
     steps-requires
-    slice-aggregate-run
     shared-slice-read-run
     shared-slice-read-run-2
     shared-slice-read-run-3
     shared-slice-read-run-4
+    slice-aggregate-run
     run-requires
     store-requires
     same-length
