@@ -122,8 +122,9 @@ size_t archive_table_words(void);
 /*
  * Makes a table of no server, whose servers will have `capacity` entries each.
  * The salt is a number of the caller's choice, below ARCHIVE_CONTENT_RANGE, that is added to every id where the rule says which
- * servers it may go to. Two archives with different salts send the same ids to different servers, so that the ids that crowd a
- * server of one do not all crowd the same server of the other. 0 is the plain rule. The table keeps the salt for all later calls.
+ * servers it may go to. Two archives with different salts file the same ids differently, so that the ids that crowd a server of
+ * one do not all crowd the same server of the other; salts drawn at random serve best. 0 is the plain rule. The table keeps the
+ * salt for all later calls.
  * Answers ARCHIVE_ACCEPTED; ARCHIVE_OUT_OF_RANGE for a capacity of 0 or above 65,536 or a salt of ARCHIVE_CONTENT_RANGE or more,
  * and the table is then all zeros, on which every call is refused; or ARCHIVE_SHORT.
  */

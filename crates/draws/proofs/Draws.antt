@@ -21,17 +21,20 @@ round< : (s : ℕ) → s < modulus → roundOf s < modulus
 unfolding roundOf
 round< s h = left< 5 _ (right< 17 _ (left< 13 s h))
 
-seed< : (salt id k : ℕ) → seedOf salt id k < modulus
-unfolding seedOf nonzero
-seed< salt id k = byBool (eqb ((id + stepOf k + salt) % modulus) 0) (λ e. rw e (omega arith)) (λ e. rw e (omega arith))
+nonzero< : (s : ℕ) → s < modulus → nonzero s < modulus
+unfolding nonzero
+nonzero< s h = byBool (eqb s 0) (λ e. rw e (omega arith)) (λ e. rw e h)
 
 pub draw< : (salt id k : ℕ) → drawOf salt id k < modulus
-unfolding drawOf
-draw< salt id k = round< _ (round< _ (round< _ (seed< salt id k)))
+unfolding drawOf seedOf
+draw< salt id k = round< _ (round< _ (round< _ (nonzero< _ (omega arith))))
+
+-- salt 0 is no salt: the seed is document 01's
+pub plain-seed : (id k : ℕ) → seedOf 0 id k ≡ nonzero ((id + stepOf k) % modulus)
+unfolding seedOf
+plain-seed id k = ap (λ (s : ℕ). nonzero (s % modulus)) (omega arith)
 
 -- a salt draws for an id what no salt draws for the id that is greater by the salt
 pub salted-draw : (salt id k : ℕ) → drawOf salt id k ≡ drawOf 0 (id + salt) k
 unfolding drawOf seedOf
-salted-draw salt id k =
-    let same : id + stepOf k + salt ≡ id + salt + stepOf k + 0 = omega arith in
-    ap (λ (s : ℕ). roundOf (roundOf (roundOf (nonzero (s % modulus))))) same
+salted-draw salt id k = ap (λ (s : ℕ). roundOf (roundOf (roundOf (nonzero (s % modulus))))) (omega arith)

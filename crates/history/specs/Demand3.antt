@@ -68,7 +68,8 @@ module _ (capacity salt n : ℕ) (calls : List Call) where
     pub alike : map compared (replies (begin capacity salt n) calls) ≡ ledgerReplies (freshLedger capacity salt n) calls
     -- and each batch of lookups with the ledger's whole answer
     pub batches : (before later : List Call) (tenant : ℕ) (ids : List ℕ) → before ++ (batch tenant ids ∷ later) ≡ calls
-        → batchReply (stateThen capacity salt n before .table) (stateThen capacity salt n before .medium) tenant ids ≡ batchL (ledgerThen capacity salt n before) tenant ids
+        → batchReply (stateThen capacity salt n before .table) (stateThen capacity salt n before .medium) tenant ids
+        ≡ batchL (ledgerThen capacity salt n before) tenant ids
     -- a lookup by the id's own tenant finds the value of the last accepted write of the id with no accepted delete afterwards
     pub finds : (id value server : ℕ) → LastWrite (L .events) id value server
         → (lookedUp id .refusal ≡ 0) × (lookedUp id .value ≡ value)
