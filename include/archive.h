@@ -30,7 +30,8 @@ extern "C" {
  * The version of this interface. It grows when a signature or an encoding changes; archive_abi() answers the library's own. The
  * number of a call or of a refusal never gets another meaning. Version 2 has tenants: word 1 of a call, an argument of
  * archive_lookup_batch, and refusal 11. Version 3 has a salt: an argument of archive_start, archive_replay and archive_picks, and
- * a word of the table.
+ * word 1 of the table. Version 2 filed as salt 0 does: its tables are those of version 3 once a 0 is put in after their first
+ * word.
  */
 #define ARCHIVE_ABI 3u
 

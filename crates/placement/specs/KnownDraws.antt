@@ -8,12 +8,16 @@ use Rattle.draws.specs.Draw.{modulus, stepOf, nonzero, seedOf, xorLeft, xorRigh
 use Rattle.placement.specs.Fraction.{exceeds}
 use Rattle.placement.specs.Rule.{shareOf, writeP, takes, pick, writeServer}
 
--- the draw under salt 0, and the write server of id 626627286 among servers of these weights
+-- the draw under salt 0
 abbrev pub plainDraw : ℕ → ℕ → ℕ
 plainDraw id k = drawOf 0 id k
 
+-- the write server of id 626627286 among servers of these weights, under a salt and under salt 0
+abbrev pub pickedUnder : ℕ → List ℕ → ℕ → ℕ
+pickedUnder salt ws n = writeServer (nth ws) n salt 626627286
+
 abbrev pub picked : List ℕ → ℕ → ℕ
-picked ws n = writeServer (nth ws) n 0 626627286
+picked ws n = pickedUnder 0 ws n
 
 pub record KnownDraws : Type 0 where
   pub step0 : stepOf 0 ≡ 2654435769
