@@ -29,7 +29,8 @@ visited capacity m k opened (some j) =
     let r = metReply capacity m opened (some (record { server = k; entry = j })) in
     record { refusal = r .refusal; value = r .value; opened = opened; end = suc k }
 
--- server k, by its ReadP and its used in a table of this shape: it is opened if no entry of the id was met yet and it is read for the id
+-- server k, by its ReadP and its used in a table of this shape: it is opened if no entry of the id was met yet and it is read for
+-- the id
 unfoldable pub stepped : Fraction → Shape → ℕ → List ℕ → ℕ → ℕ → Progress → Progress
 stepped read shape used m id k p =
     cond (eqb (p .refusal) 8 && exceeds modulus read (drawOf (shape .salt) id k))

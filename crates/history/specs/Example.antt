@@ -38,7 +38,8 @@ expected =
     ∷ refused 8 2
     ∷ []
 
--- a table of 4 entries a server and salt 0 over n blank words; proofs/Example shows it for every n of 36 or more, the words of three servers
+-- a table of 4 entries a server and salt 0 over n blank words; proofs/Example shows it for every n of 36 or more, the words of
+-- three servers
 pub record Example (n : ℕ) : Type 0 where
   pub machine : replies (begin 4 0 n) calls ≡ expected
   pub ledger : ledgerReplies (freshLedger 4 0 n) calls ≡ map compared expected

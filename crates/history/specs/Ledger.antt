@@ -1,6 +1,6 @@
 -- The plain ledger (document 01, "The plain ledger"; document 02, items 2 and 4). It is fed the capacity, the salt, the medium's
--- length and the calls' arguments, and nothing from table or medium; of the archive it shares the published rule, which of two fractions is kept
--- (`raise`), whose an id is, and how rows of refusals and the parts of a batch are put together.
+-- length and the calls' arguments, and nothing from table or medium; of the archive it shares the published rule, which of two
+-- fractions is kept (`raise`), whose an id is, and how rows of refusals and the parts of a batch are put together.
 use Prim.Native.Nat.{ℕ, suc, _+_, _-_, _*_}
 use mathlib.Core.Bool.{Bool, true, false, cond, not, _&&_, _||_}
 use mathlib.Core.List.{List, [], _∷_, _++_}
@@ -23,8 +23,8 @@ pub data Event : Type 0 where
   wrote : ℕ → ℕ → ℕ → Event
   removed : ℕ → Event
 
--- the capacity, the salt, the medium's length, the number of servers, their weights, for each the greatest WriteP so far, and the events, the
--- newest first
+-- the capacity, the salt, the medium's length, the number of servers, their weights, for each the greatest WriteP so far, and the
+-- events, the newest first
 pub record Ledger : Type 0 where
   pub capacity : ℕ
   pub salt : ℕ

@@ -1,13 +1,14 @@
 -- Laws of the write servers over weights that passed their test.
 -- Assumes nothing.
-use Prim.Native.Nat.{ℕ, _≤_, _<_, min}
+use Prim.Native.Nat.{ℕ, _<_, min}
 use mathlib.Core.Path.{_≡_, refl}
-use mathlib.Core.Bool.{true, false}
+use mathlib.Core.Bool.{true, false, _&&_}
 use mathlib.Core.List.{List}
 use native.Mathlib.Omega.{arith}
 use lib.ListN.{length}
-use lib.Dec.{leb}
-use borrow.Author.Tests.{leb-true, le-ltb, lt-ltb}
+use lib.Dec.{leb, ltb}
+use borrow.Author.Tests.{leb-true, lt-ltb}
+use Rattle.limits.specs.Limits.{contentRange}
 use Rattle.lists.specs.Below.{nth, setBelow}
 use Rattle.lists.proofs.Tests.{and-l, and-r}
 use Rattle.lists.proofs.Below.{allBelow-out, highest-le}
@@ -36,13 +37,10 @@ abbrev pub Done : List ℕ → ℕ → List ℕ → List ℕ → ℕ → List �
 Done ws salt ids servers n servers′ = (n ≡ picksOf ws salt ids servers) × (servers′ ≡ setBelow (serverOf ws salt ids) n servers)
 
 module _ (ws : List ℕ) (salt : ℕ) (ids servers : List ℕ) where
-  pub none-picked : bounded ws ≡ false → Done ws salt ids servers 0 servers
+  -- the weights are not bounded, or the salt is out of range
+  pub none-picked : bounded ws && ltb salt contentRange ≡ false → Done ws salt ids servers 0 servers
   unfolding picksOf setBelow
   none-picked b = rw b (refl, refl)
-
-  pub none-salted : bounded ws ≡ true → 1073741824 ≤ salt → Done ws salt ids servers 0 servers
-  unfolding picksOf setBelow
-  none-salted b s = rw (b, le-ltb salt 1073741824 s) (refl, refl)
 
   pub all-picked : (n : ℕ) (servers′ : List ℕ) → bounded ws ≡ true → salt < 1073741824 → n ≡ min (length ids) (length servers)
       → servers′ ≡ setBelow (serverOf ws salt ids) n servers → Done ws salt ids servers n servers′

@@ -70,7 +70,7 @@ pub writeP-cong : (v u : ℕ → ℕ) (k : ℕ) → ((i : ℕ) → i ≤ k → v
 unfolding writeP
 writeP-cong v u k h = rw (h k (omega arith), total-cong v u (suc k) (λ i l. h i (omega arith)))
 
-pub takes-cong : (m : ℕ) (draw : ℕ → ℕ) (f g : ℕ → Fraction) (k : ℕ) → f k ≡ g k → takes m draw f k ≡ takes m draw g k
+takes-cong : (m : ℕ) (draw : ℕ → ℕ) (f g : ℕ → Fraction) (k : ℕ) → f k ≡ g k → takes m draw f k ≡ takes m draw g k
 unfolding takes
 takes-cong m draw f g k e = rw e
 

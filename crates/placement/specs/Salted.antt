@@ -1,6 +1,6 @@
 -- Known values under a salt (document 02, item 4), one theorem over the definitions. Document 01's id goes to another server of the
 -- same weights than under salt 0, where it is server 2 (KnownDraws `weights102`): what a salt is for. And a sum of 0 is read as 1.
-use Prim.Native.Nat.{ℕ, _+_, _%_}
+use Prim.Native.Nat.{_+_, _%_}
 use mathlib.Core.Path.{_≡_, refl}
 use mathlib.Core.List.{[], _∷_}
 use Rattle.lists.specs.Below.{highest, orZero, total}

@@ -86,8 +86,9 @@ pub fn sum_weights(weights: &[u32], count: usize) -> u32
     sum
 }
 
-// The write server of an id under a salt among `count` servers: from the highest down, the first whose WriteP exceeds its draw. Server 0 takes what
-// no other does, so that the loop ends above it. A weight of 0 needs no case of its own, since a fraction of 0 exceeds no draw.
+// The write server of an id under a salt among `count` servers: from the highest down, the first whose WriteP exceeds its draw.
+// Server 0 takes what no other does, so that the loop ends above it. A weight of 0 needs no case of its own, since a fraction of
+// 0 exceeds no draw.
 pub fn write_server(weights: &[u32], steps: &[u32], count: usize, salt: u32, id: u32) -> usize
     requires { ⌜ Bounded (now weights) count ⌝ }
     requires { ⌜ areSteps (now steps) ≡ true ⌝ }

@@ -1,5 +1,5 @@
--- Start, add_server and reweight (document 01, "The calls", and document 02, item 4): for each its reply, and the table that it leaves. t is the table and
--- m the medium as lent.
+-- Start, add_server and reweight (document 01, "The calls", and document 02, item 4): for each its reply, and the table that it
+-- leaves. t is the table and m the medium as lent.
 use Prim.Native.Nat.{ℕ}
 use mathlib.Core.List.{List}
 use Rattle.table.specs.declared.Table.{Table}

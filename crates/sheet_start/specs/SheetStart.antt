@@ -1,4 +1,5 @@
--- A sheet, and a start on it (document 01, "The program", and document 02, item 4): what it prints, and the table in use and the medium after it.
+-- A sheet, and a start on it (document 01, "The program", and document 02, item 4): what it prints, and the table in use and the
+-- medium after it.
 use Prim.Native.Nat.{ℕ}
 use mathlib.Core.Bool.{cond}
 use mathlib.Core.List.{List}

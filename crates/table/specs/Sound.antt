@@ -1,4 +1,5 @@
--- When a table is sound (document 01, "The table", and document 02, item 4), for arbitrary bits. Only positions below the count are read.
+-- When a table is sound (document 01, "The table", and document 02, item 4), for arbitrary bits. Only positions below the count
+-- are read.
 use Prim.Native.Nat.{ℕ}
 use mathlib.Core.Bool.{Bool, _&&_}
 use lib.Dec.{leb, ltb}

@@ -1,15 +1,17 @@
 -- `picks::picks` meets its contract. The invariant: the write servers of the ids passed are stored.
 use Prim.Native.Nat.{_-_, _≤_}
-use mathlib.Core.Path.{_≡_, refl, sym, _∙_}
-use mathlib.Core.Bool.{true}
+use mathlib.Core.Path.{_≡_, refl, sym, ap, ap₂, _∙_}
+use mathlib.Core.Bool.{Bool, true, _&&_}
 use native.Mathlib.Omega.{arith}
 use lib.ListN.{length, length-set}
 use borrow.Author.Needs.{needs}
-use borrow.Author.Tests.{not-true, not-false}
+use lib.Dec.{ltb}
+use borrow.Author.Tests.{not-true, not-false, le-ltb}
+use Rattle.limits.specs.Limits.{contentRange}
 use Rattle.lists.specs.Below.{setBelow}
 use Rattle.lists.proofs.Below.{setBelow-more}
 use Rattle.picks.specs.Picks.{bounded}
-use Rattle.picks.proofs.Picking.{serverOf, bounded-facts, picked-small, none-picked, none-salted, all-picked}
+use Rattle.picks.proofs.Picking.{serverOf, bounded-facts, picked-small, none-picked, all-picked}
 use Rattle.picks.proofs.picks.Statement.{statement}
 use Rattle.picks.proofs.picks.Tie as tie
 
@@ -39,12 +41,14 @@ are-bounded-requires c κs = search needs
 returns : tie.Need-returns Inv-loop μ-loop
 returns c =
     let a = c .before .before .before .before .before .args in
-    none-picked (a .weights .now) (a .salt) (a .ids .now) (a .servers .now) (sym (c .before .are-bounded .ensures) ∙ not-true _ (c .if1 .taken))
+    none-picked (a .weights .now) (a .salt) (a .ids .now) (a .servers .now)
+    (ap (λ (b : Bool). b && ltb (a .salt) contentRange) (sym (c .before .are-bounded .ensures) ∙ not-true _ (c .if1 .taken)))
 
 returns-2 : tie.Need-returns-2 Inv-loop μ-loop
 returns-2 c =
     let a = c .before .before .before .before .before .before .args in
-    none-salted (a .weights .now) (a .salt) (a .ids .now) (a .servers .now) (sym (c .before .before .are-bounded .ensures) ∙ not-false _ (c .before .if1 .left)) (c .if2 .taken)
+    none-picked (a .weights .now) (a .salt) (a .ids .now) (a .servers .now)
+    (ap₂ _&&_ (sym (c .before .before .are-bounded .ensures) ∙ not-false _ (c .before .if1 .left)) (le-ltb (a .salt) contentRange (c .if2 .taken)))
 
 steps-requires : tie.Need-steps-requires Inv-loop μ-loop
 steps-requires c κs = search needs
