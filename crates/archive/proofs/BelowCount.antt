@@ -1,5 +1,5 @@
--- Positions at or above the count have no bearing on any call: tables that agree below the count get the same replies
--- and media, and tables that agree below the count.
+-- Positions at or above the count have no bearing on any call, nor have the counters: tables that agree below the count and are
+-- alike sound get the same replies and media, and again such tables.
 -- Assumes nothing.
 use Prim.Native.Nat.{ℕ, suc, _+_, _-_, _*_, _≤_, _<_}
 use mathlib.Core.Path.{_≡_, refl, sym, ap, ap₂, _∙_, subst}
@@ -19,11 +19,12 @@ use Rattle.medium.proofs.Marks.{marksOver-cong}
 use Rattle.table.specs.declared.Table.{Table}
 use Rattle.table.specs.Parts.{weightOf, usedOf, reads}
 use Rattle.table.specs.Sound.{sound}
-use Rattle.upkeep.specs.Upkeep.{withEntry}
+use Rattle.upkeep.specs.Upkeep.{withEntry, withOpened}
 use Rattle.table.proofs.Soundness.{Arrays, sound-facts}
-use Rattle.upkeep.proofs.Upkeep.{withServer-arrays, withWeight-arrays, withEntry-arrays}
-use Rattle.table.proofs.Agreement.{AgreeBelow, agree-sound}
-use Rattle.upkeep.proofs.KeptAgreeing.{agree-withServer, agree-withWeight, agree-withEntry}
+use Rattle.upkeep.proofs.Upkeep.{withServer-arrays, withWeight-arrays, withEntry-arrays, withOpened-arrays}
+use Rattle.table.proofs.Agreement.{AgreeBelow}
+use Rattle.upkeep.proofs.KeptSound.{withServer-sound, withWeight-sound, withEntry-sound, withOpened-sound}
+use Rattle.upkeep.proofs.KeptAgreeing.{agree-withServer, agree-withWeight, agree-withEntry, agree-withOpened}
 use Rattle.replies.specs.Refusal.{firstOf}
 use Rattle.replies.specs.declared.Reply.{Reply}
 use Rattle.replies.specs.Reply.{onServer}
@@ -32,7 +33,7 @@ use Rattle.search.specs.Search.{Search}
 use Rattle.search.specs.Opened.{lowest, opens, SameOpened}
 use Rattle.checks.specs.Ready.{short, askedRows}
 use Rattle.checks.proofs.Passed.{asked-same, asked-numbered, asked-tests, asked-ready}
-use Rattle.lookup.specs.Lookup.{lookupRows, lookupReply}
+use Rattle.lookup.specs.Lookup.{lookupRows, lookupReply, lookupTable}
 use Rattle.lookup.proofs.Passed.{lookup-accepted}
 use Rattle.search.proofs.Searches.{reads-same}
 use Rattle.lookup.proofs.OpenedByValues.{same-met, opened-by-values}
@@ -46,12 +47,13 @@ use Rattle.server_rows.specs.ServerRows.{addServerRows, reweightRows}
 use Rattle.server_rows.proofs.Accepted.{addServer-accepted, reweight-accepted}
 use Rattle.servers.specs.Servers.{addServerReply, addServerTable, reweightReply, reweightTable}
 use Rattle.batch_answer.proofs.Orders.{batch-cong}
-use Rattle.batch.specs.Batch.{lookupOpens, openedAt, batchReply, batchRows}
+use Rattle.batch.specs.Batch.{lookupOpens, openedAt, batchReply, batchRows, batchTable}
 use Rattle.batch_answer.specs.Answer.{tooLong}
 
--- two tables that agree below the count, with their arrays' lengths
+-- two tables that agree below the count and are alike sound, with their arrays' lengths
 pub record Alike (t u : Table) : Type 0 where
   pub agree : AgreeBelow t u
+  pub isSound : sound t ≡ sound u
   pub one : Arrays t
   pub other : Arrays u
 
@@ -61,9 +63,9 @@ some-server t e = omega (arith, eqb-false (t .count) 0 e)
 few : (t : Table) → sound t ≡ true → t .count ≤ 256
 few t s = sound-facts t s .few
 
-module _ (t u : Table) (g : AgreeBelow t u) where
+module _ (t u : Table) (g : AgreeBelow t u) (h : sound t ≡ sound u) where
   same-sound : not (sound t) ≡ not (sound u)
-  same-sound = ap not (agree-sound t u g)
+  same-sound = ap not h
 
   same-short : (m : List ℕ) → short t m ≡ short u m
   unfolding short
@@ -74,7 +76,7 @@ module _ (t u : Table) (g : AgreeBelow t u) where
 
   -- the rows of each call
 
-  addServer-rows : (m : List ℕ) (weight : ℕ) → firstOf (addServerRows t m weight) ≡ firstOf (addServerRows u m weight)
+  pub addServer-rows : (m : List ℕ) (weight : ℕ) → firstOf (addServerRows t m weight) ≡ firstOf (addServerRows u m weight)
   unfolding addServerRows
   addServer-rows m weight =
       first-same 1 _ _ _ _ same-sound (λ _.
@@ -83,7 +85,7 @@ module _ (t u : Table) (g : AgreeBelow t u) where
       first-same 5 _ _ _ _ (ap₂ (λ (c n : ℕ). ltb (length m) (serverAt c (suc n))) (g .capacity) (g .count)) (λ _.
       first-same 7 _ _ _ _ (ap₂ (λ (c n : ℕ). not (blankRun m (serverAt c n) (3 * c))) (g .capacity) (g .count)) (λ _. refl)))))
 
-  reweight-rows : (server weight : ℕ) → firstOf (reweightRows t server weight) ≡ firstOf (reweightRows u server weight)
+  pub reweight-rows : (server weight : ℕ) → firstOf (reweightRows t server weight) ≡ firstOf (reweightRows u server weight)
   unfolding reweightRows
   reweight-rows server weight =
       first-same 1 _ _ _ _ same-sound (λ _.
@@ -128,9 +130,9 @@ module _ (t u : Table) (g : AgreeBelow t u) where
       (same-entry id l) (write-marks m id)
 
   asked-rows : (m : List ℕ) (tenant id : ℕ) (outside : Bool) → firstOf (askedRows t m tenant id outside) ≡ firstOf (askedRows u m tenant id outside)
-  asked-rows m tenant id outside = asked-same t u m m tenant id outside (agree-sound t u g) (g .count) (same-short m)
+  asked-rows m tenant id outside = asked-same t u m m tenant id outside h (g .count) (same-short m)
 
-  write-rows : (m : List ℕ) (tenant id value : ℕ) → firstOf (writeRows t m tenant id value) ≡ firstOf (writeRows u m tenant id value)
+  pub write-rows : (m : List ℕ) (tenant id value : ℕ) → firstOf (writeRows t m tenant id value) ≡ firstOf (writeRows u m tenant id value)
   unfolding writeRows entryRows
   write-rows m tenant id value = more-same _ _ _ _ (asked-numbered t m tenant id _) (asked-numbered u m tenant id _) (asked-rows m tenant id _) (λ z.
       let some = some-server t (asked-tests t m tenant id _ z .none) in
@@ -142,7 +144,23 @@ module _ (t u : Table) (g : AgreeBelow t u) where
   delete-rows m tenant id = more-same _ _ _ _ (asked-numbered t m tenant id _) (asked-numbered u m tenant id _) (asked-rows m tenant id _) (λ _.
       first-same 8 _ _ _ _ (ap not (deleted-some t m id ∙ ap (λ (l : List ℕ). not (eqb (length l) 0)) (delete-marks m id) ∙ sym (deleted-some u m id))) (λ _. refl))
 
-  -- calls that leave the table
+  -- replies and media
+
+  pub addServer-same : (m : List ℕ) (weight : ℕ) → addServerReply t m weight ≡ addServerReply u m weight
+  unfolding addServerReply
+  addServer-same m weight = reply-same _ _ (addServer-rows m weight) _ _ (λ _. ap (λ (k : ℕ). onServer k 0) (g .count))
+
+  pub reweight-same : (server weight : ℕ) → reweightReply t server weight ≡ reweightReply u server weight
+  unfolding reweightReply
+  reweight-same server weight = reply-same _ _ (reweight-rows server weight) _ _ (λ _. refl)
+
+  pub write-same : (m : List ℕ) (tenant id value : ℕ) → (writeReply t m tenant id value ≡ writeReply u m tenant id value) × (writeMedium t m tenant id value ≡ writeMedium u m tenant id value)
+  unfolding writeReply writeMedium
+  write-same m tenant id value =
+      let e = write-rows m tenant id value in (
+        reply-same _ _ e _ _ (λ _. ap₂ (λ (k : ℕ) (l : List ℕ). onServer k (length l)) (same-target id) (write-marks m id)),
+        settle-both _ _ e (_≡_ {A = List ℕ}) _ _ _ _ (λ z. ap (burnAll m) (write-burns m id value (omega (arith, write-accepted t m tenant id value z .there)))) refl,
+      )
 
   pub delete-below : (m : List ℕ) (tenant id : ℕ) → (deleteReply t m tenant id ≡ deleteReply u m tenant id) × (deleteMedium t m tenant id ≡ deleteMedium u m tenant id)
   unfolding deleteReply deleteMedium
@@ -168,7 +186,7 @@ module _ (t u : Table) (g : AgreeBelow t u) where
   pub lookup-below : (m : List ℕ) (tenant id : ℕ) → lookupReply t m tenant id ≡ lookupReply u m tenant id
   unfolding lookupReply lookupRows
   lookup-below m tenant id = byBool (sound t)
-      (λ s. opened-by-values t u m m id s (sym (agree-sound t u g) ∙ s) (same-servers m id) tenant)
+      (λ s. opened-by-values t u m m id s (sym h ∙ s) (same-servers m id) tenant)
       (λ s. reply-same _ _ (asked-rows m tenant id _) _ _ (λ z. absurd (true-not-false (asked-ready t m tenant id _ z .isSound) s)))
 
   opens-below : (m : List ℕ) (tenant id k : ℕ) → k < t .count → lookupOpens t m tenant id k ≡ lookupOpens u m tenant id k
@@ -176,7 +194,7 @@ module _ (t u : Table) (g : AgreeBelow t u) where
   opens-below m tenant id k l = settle-both (lookupRows t m tenant id) (lookupRows u m tenant id) (asked-rows m tenant id _) (_≡_ {A = Bool}) _ _ false false
       (λ z.
       let s = lookup-accepted t m tenant id z .isSound in
-      ap₂ (λ (x : Search) (b : Bool). leb (lowest (x .met)) k && b) (same-met t u m m id s (sym (agree-sound t u g) ∙ s) (same-servers m id)) (same-reads id k l))
+      ap₂ (λ (x : Search) (b : Bool). leb (lowest (x .met)) k && b) (same-met t u m m id s (sym h ∙ s) (same-servers m id)) (same-reads id k l))
       refl
 
   pub batch-below : (m : List ℕ) (tenant : ℕ) (ids : List ℕ) → batchReply t m tenant ids ≡ batchReply u m tenant ids
@@ -188,31 +206,58 @@ module _ (t u : Table) (g : AgreeBelow t u) where
       (ap (λ (r : Reply). r .refusal) e, ap (λ (r : Reply). r .value) e, ap (λ (r : Reply). r .opened) e))
 
 module _ (t u : Table) (a : Alike t u) where
+  -- servers opened for a tenant, in one table and in the other
+  opened-alike : (tenant : ℕ) (opened opened′ : ℕ) → Alike (withOpened t tenant opened) (withOpened u tenant opened′)
+  opened-alike tenant opened opened′ = record {
+    agree = agree-withOpened t u tenant tenant opened opened′ (a .agree);
+    isSound = withOpened-sound t tenant opened ∙ a .isSound ∙ sym (withOpened-sound u tenant opened′);
+    one = withOpened-arrays t tenant opened (a .one);
+    other = withOpened-arrays u tenant opened′ (a .other);
+  }
+
+  pub lookup-alike : (m : List ℕ) (tenant id : ℕ) → Alike (lookupTable t m tenant id) (lookupTable u m tenant id)
+  unfolding lookupTable
+  lookup-alike m tenant id = opened-alike tenant _ _
+
+  pub batch-alike : (m : List ℕ) (tenant : ℕ) (ids : List ℕ) → Alike (batchTable t m tenant ids) (batchTable u m tenant ids)
+  unfolding batchTable
+  batch-alike m tenant ids = opened-alike tenant _ _
+
   pub addServer-below : (m : List ℕ) (weight : ℕ)
       → (addServerReply t m weight ≡ addServerReply u m weight) × Alike (addServerTable t m weight) (addServerTable u m weight)
-  unfolding addServerReply addServerTable
+  unfolding addServerTable
   addServer-below m weight =
       let g = a .agree in
-      let e = addServer-rows t u g m weight in (
-        reply-same _ _ e _ _ (λ _. ap (λ (k : ℕ). onServer k 0) (g .count)),
-        settle-both _ _ e Alike _ _ t u (λ z. record {
-          agree = agree-withServer t u weight (a .one) (a .other) (addServer-accepted t m weight z .few) g;
-          one = withServer-arrays t weight (a .one);
-          other = withServer-arrays u weight (a .other);
-        }) a,
+      let e = addServer-rows t u g (a .isSound) m weight in (
+        addServer-same t u g (a .isSound) m weight,
+        settle-both _ _ e Alike _ _ t u (λ z.
+            let f = addServer-accepted t m weight z in
+            let f′ = addServer-accepted u m weight (sym e ∙ z) in
+            record {
+              agree = agree-withServer t u weight (a .one) (a .other) (f .few) g;
+              isSound =
+                  withServer-sound t weight (a .one) (f .isSound) (f .few) (f .light)
+                  ∙ sym (withServer-sound u weight (a .other) (f′ .isSound) (f′ .few) (f′ .light));
+              one = withServer-arrays t weight (a .one);
+              other = withServer-arrays u weight (a .other);
+            }) a,
       )
 
   pub reweight-below : (server weight : ℕ)
       → (reweightReply t server weight ≡ reweightReply u server weight) × Alike (reweightTable t server weight) (reweightTable u server weight)
-  unfolding reweightReply reweightTable
+  unfolding reweightTable
   reweight-below server weight =
       let g = a .agree in
-      let e = reweight-rows t u g server weight in (
-        reply-same _ _ e _ _ (λ _. refl),
+      let e = reweight-rows t u g (a .isSound) server weight in (
+        reweight-same t u g (a .isSound) server weight,
         settle-both _ _ e Alike _ _ t u (λ z.
             let f = reweight-accepted t server weight z in
+            let f′ = reweight-accepted u server weight (sym e ∙ z) in
             record {
               agree = agree-withWeight t u server weight (a .one) (a .other) (few t (f .isSound)) (f .there) g;
+              isSound =
+                  withWeight-sound t server weight (a .one) (f .isSound) (f .there) (f .light)
+                  ∙ sym (withWeight-sound u server weight (a .other) (f′ .isSound) (f′ .there) (f′ .light));
               one = withWeight-arrays t server weight (a .one);
               other = withWeight-arrays u server weight (a .other);
             }) a,
@@ -222,18 +267,23 @@ module _ (t u : Table) (a : Alike t u) where
       → (writeReply t m tenant id value ≡ writeReply u m tenant id value)
       × Alike (writeTable t m tenant id value) (writeTable u m tenant id value)
       × (writeMedium t m tenant id value ≡ writeMedium u m tenant id value)
-  unfolding writeReply writeTable writeMedium
+  unfolding writeTable
   write-below m tenant id value =
       let g = a .agree in
-      let e = write-rows t u g m tenant id value in (
-        reply-same _ _ e _ _ (λ _. ap₂ (λ (k : ℕ) (l : List ℕ). onServer k (length l)) (same-target t u g id) (write-marks t u g m id)),
+      let e = write-rows t u g (a .isSound) m tenant id value in
+      let same = write-same t u g (a .isSound) m tenant id value in (
+        same .0,
         settle-both _ _ e Alike _ _ t u (λ z.
             let f = write-accepted t m tenant id value z in
+            let f′ = write-accepted u m tenant id value (sym e ∙ z) in
             record {
-              agree = subst (λ (k : ℕ). AgreeBelow (withEntry t (target t id)) (withEntry u k)) (same-target t u g id)
+              agree = subst (λ (k : ℕ). AgreeBelow (withEntry t (target t id)) (withEntry u k)) (same-target t u g (a .isSound) id)
                   (agree-withEntry t u (target t id) (a .one) (a .other) (few t (f .isSound)) (f .there) g);
+              isSound =
+                  withEntry-sound t (target t id) (a .one) (f .isSound) (f .there) (f .free)
+                  ∙ sym (withEntry-sound u (target u id) (a .other) (f′ .isSound) (f′ .there) (f′ .free));
               one = withEntry-arrays t (target t id) (a .one);
               other = withEntry-arrays u (target u id) (a .other);
             }) a,
-        settle-both _ _ e (_≡_ {A = List ℕ}) _ _ _ _ (λ z. ap (burnAll m) (write-burns t u g m id value (omega (arith, write-accepted t m tenant id value z .there)))) refl,
+        same .1,
       )

@@ -1,4 +1,5 @@
 pub mod BelowCount
+pub mod Counters
 pub mod Small
 pub mod Once
 pub mod Lowest

@@ -40,7 +40,7 @@ same-batch : {a b : ℕ} {r s v w o p x y : List ℕ} → a ≡ b → r ≡ s �
 same-batch e f g h i = rw (e, f, g, h, i)
 
 -- a list of up to 256 ids is answered
-batch-accepted : (t : Table) (ids : List ℕ) → length ids ≤ 256 → firstOf (batchRows t ids) ≡ 0
+pub batch-accepted : (t : Table) (ids : List ℕ) → length ids ≤ 256 → firstOf (batchRows t ids) ≡ 0
 unfolding batchRows tooLong firstOf
 batch-accepted t ids h = rw (le-ltb 256 (length ids) h)
 

@@ -30,6 +30,7 @@ use Rattle.search.specs.Opened.{lowest, opens}
 use Rattle.checks.specs.Ready.{readyRows, askedRows, short}
 use Rattle.lookup.specs.Lookup.{lookupRows, metReply, lookupReply}
 use Rattle.lookup.proofs.ServerZero.{ends-there}
+use Rattle.lookup.proofs.Counting.{met-opened}
 use Rattle.search.proofs.Searches.{search-cases, search-low, opened-are}
 use Rattle.batch_begin.specs.Begin.{absentSoFar, firstRefusal}
 use Rattle.batch_steps.specs.declared.Progress.{Progress}
@@ -45,11 +46,6 @@ module _ (capacity : ℕ) (m : List ℕ) where
       × (metReply capacity m a (some p) .value ≡ metReply capacity m b (some p) .value)
   unfolding metReply
   met-same a b p = byBool (eqb (tagOf (nth m (valueAt capacity (p .server) (p .entry)))) 1) (λ e. rw e (refl, refl)) (λ e. rw e (refl, refl))
-
-  met-opened : (a : ℕ) (o : Option Place) → metReply capacity m a o .opened ≡ a
-  unfolding metReply
-  met-opened a none = refl
-  met-opened a (some p) = byBool (eqb (tagOf (nth m (valueAt capacity (p .server) (p .entry)))) 1) (λ e. rw e) (λ e. rw e)
 
   met-not-absent : (a : ℕ) (p : Place) → metReply capacity m a (some p) .refusal ≢ 8
   unfolding metReply

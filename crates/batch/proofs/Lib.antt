@@ -1,2 +1,3 @@
 mod Batches
 mod BatchParts
+pub mod Counting

@@ -7,9 +7,9 @@ use lib.ListN.{length, replicate, length-replicate}
 use lib.Seq.{ext-getD}
 use lib.Dec.{ltb}
 use borrow.Author.Tests.{ltb-true, ltb-false}
-use Rattle.lists.specs.Below.{nth}
+use Rattle.lists.specs.Below.{nth, total}
 use Rattle.lists.proofs.Tests.{byBool}
-use Rattle.lists.proofs.Below.{length-setBelow, setBelow-at, setBelow-above, nth-zeros}
+use Rattle.lists.proofs.Below.{length-setBelow, setBelow-at, setBelow-above, nth-zeros, total-cong, total-rest}
 use Rattle.batch_answer.specs.Answer.{filled}
 
 module _ (f : ℕ → ℕ) (n : ℕ) (few : n ≤ 256) where
@@ -31,6 +31,10 @@ module _ (f : ℕ → ℕ) (n : ℕ) (few : n ≤ 256) where
       ext-getD 0 xs (filled f n) (long ∙ sym length-filled) (λ i b. byBool (ltb i n)
       (λ d. front i (ltb-true i n d) ∙ sym (filled-at i (ltb-true i n d)))
       (λ d. rest i (ltb-false i n d) ∙ sym (filled-above i (ltb-false i n d))))
+
+  -- the sum of the array is that of the given numbers
+  pub filled-total : total (nth (filled f n)) 256 ≡ total f n
+  filled-total = total-rest (nth (filled f n)) n 256 few filled-above ∙ total-cong (nth (filled f n)) f n filled-at
 
   -- what holds of all the given numbers and of 0 holds at every position
   pub filled-each : (P : ℕ → Type 0) → ((i : ℕ) → P (f i)) → P 0 → (i : ℕ) → P (nth (filled f n) i)

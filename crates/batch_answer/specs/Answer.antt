@@ -9,7 +9,7 @@ use lib.ListN.{length, replicate}
 use lib.Seq.{sets}
 use lib.Dec.{ltb, eqb}
 use Rattle.limits.specs.Limits.{maxIds}
-use Rattle.lists.specs.Below.{someBelow, upward, countBelow, setBelow}
+use Rattle.lists.specs.Below.{nth, someBelow, upward, countBelow, total, setBelow}
 use Rattle.replies.specs.Refusal.{Row, firstOf, settle}
 use Rattle.batch_answer.specs.declared.Batch.{Batch}
 
@@ -75,6 +75,10 @@ refusedBatch number = record {
   opened = replicate maxIds 0;
   order = replicate maxIds 0;
 }
+
+-- the opened counts of all ids together
+unfoldable pub openedIn : Batch → ℕ
+openedIn b = total (nth (b .opened)) maxIds
 
 -- a list of more than 256 ids is out of range; every other one is answered id by id
 unfoldable pub tooLong : List ℕ → Bool

@@ -4,8 +4,9 @@ mod ordering;
 ghost use mathlib.Core.Path.{_≡_};
 ghost use Prim.Native.Nat.{_≤_};
 ghost use lib.Dec.{eqb};
+ghost use lib.ListN.{length};
 ghost use Rattle.limits.specs.Limits.{maxIds};
-ghost use Rattle.lists.specs.Below.{nth, someBelow};
+ghost use Rattle.lists.specs.Below.{nth, someBelow, total};
 ghost use Rattle.batch_answer.specs.Answer.{refusedBatch};
 use limits::MAX_IDS;
 pub use ordering::order;
@@ -49,4 +50,18 @@ pub fn has(numbers: &[u16; MAX_IDS], n: usize, x: u16) -> bool
         i += 1;
     }
     false
+}
+
+// The sum of a batch's numbers.
+pub fn sum(numbers: &[u32]) -> usize
+    requires { ⌜ length (now numbers) ≡ maxIds ⌝ }
+    ensures { λ r. ⌜ r ≡ total (nth (now (numbers .entry))) maxIds ⌝ }
+{
+    let mut sum: usize = 0;
+    let mut i: usize = 0;
+    while i < MAX_IDS {
+        sum += numbers[i] as usize;
+        i += 1;
+    }
+    sum
 }

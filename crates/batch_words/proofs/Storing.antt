@@ -10,21 +10,23 @@ use lib.ListN.{length, set, replicate, length-replicate}
 use lib.Seq.{length-sets}
 use lib.Dec.{leb, eqb}
 use borrow.Author.Tests.{le-leb, lt-leb, leb-true, ltb-false, eqb-true, eqb-false, eq-eqb, ne-eqb}
-use Rattle.lists.specs.Below.{nth, setBelow}
+use Rattle.limits.specs.Limits.{maxIds}
+use Rattle.lists.specs.Below.{nth, total, setBelow}
 use Rattle.lists.proofs.Tests.{and-l, and-r, byBool}
 use Rattle.table.specs.declared.Table.{Table}
 use Rattle.table.specs.Sound.{sound}
-use Rattle.table_words.specs.Words.{tableLength, tableFrom}
+use Rattle.table_words.specs.Words.{tableLength, tableFrom, withTable}
+use Rattle.upkeep.specs.Upkeep.{withOpened}
 use Rattle.replies.specs.declared.Reply.{Reply}
 use Rattle.replies.specs.Refusal.{firstOf}
 use Rattle.replies.proofs.Refusals.{settle-yes, settle-no, passed}
 use Rattle.lookup.specs.Lookup.{lookupReply}
 use Rattle.lookup.proofs.Plain.{lookup-plain}
 use Rattle.batch_answer.specs.declared.Batch.{Batch}
-use Rattle.batch_answer.specs.Answer.{order, batchBy, tooLong, refusedBatch, settledBatch}
+use Rattle.batch_answer.specs.Answer.{order, batchBy, openedIn, tooLong, refusedBatch, settledBatch}
 use Rattle.batch_answer.proofs.Filled.{filled-at}
 use Rattle.batch_answer.proofs.Orders.{mounts-few}
-use Rattle.batch.specs.Batch.{openedAt, batchRows, batchReply}
+use Rattle.batch.specs.Batch.{openedAt, batchRows, batchReply, batchTable}
 use Rattle.archive.proofs.Small.{lookup-small}
 use Rattle.encoding.specs.Encoding.{replyLength, tooShort, withReply}
 use Rattle.replay.specs.Replay.{withReplies}
@@ -116,31 +118,38 @@ replies-same f g zero words h = refl
 replies-same f g (suc n) words h = ap₂ (λ (w : List ℕ) (r : Reply). withReply w n r) (replies-same f g n words (λ i l. h i (omega arith))) (h n (omega arith))
 
 -- what `lookup_batch` ensures where it answers a number
-abbrev pub Done : List ℕ → List ℕ → ℕ → List ℕ → List ℕ → List ℕ → List ℕ → ℕ → List ℕ → List ℕ → List ℕ → Type 0
-Done table m tenant ids replies order mounts number replies′ order′ mounts′ =
+abbrev pub Done : List ℕ → List ℕ → ℕ → List ℕ → List ℕ → List ℕ → List ℕ → ℕ → List ℕ → List ℕ → List ℕ → List ℕ → Type 0
+Done table m tenant ids replies order mounts number table′ replies′ order′ mounts′ =
     (number ≡ afterBatch table m tenant ids replies order mounts .number)
+    × ((table′ ≡ afterBatch table m tenant ids replies order mounts .table)
     × ((replies′ ≡ afterBatch table m tenant ids replies order mounts .replies)
     × ((order′ ≡ afterBatch table m tenant ids replies order mounts .order)
-    × (mounts′ ≡ afterBatch table m tenant ids replies order mounts .mounts)))
+    × (mounts′ ≡ afterBatch table m tenant ids replies order mounts .mounts))))
 
 module _ (table m : List ℕ) (tenant : ℕ) (ids replies order mounts : List ℕ) (long : Bool) (told : long ≡ fitsBatch (length ids) table replies order mounts) where
-  pub batch-short : long ≡ false → Done table m tenant ids replies order mounts tooShort replies order mounts
+  pub batch-short : long ≡ false → Done table m tenant ids replies order mounts tooShort table replies order mounts
   unfolding afterBatch
-  batch-short e = let f : fitsBatch (length ids) table replies order mounts ≡ false = sym told ∙ e in rw f (refl, (refl, (refl, refl)))
+  batch-short e = let f : fitsBatch (length ids) table replies order mounts ≡ false = sym told ∙ e in rw f (refl, (refl, (refl, (refl, refl))))
 
   module _ (yes : long ≡ true) (b : Batch) (is : b ≡ batchReply (tableFrom table) m tenant ids) where
     stored : afterBatch table m tenant ids replies order mounts ≡ batchStored table m tenant ids replies order mounts b
     unfolding afterBatch
     stored = let f : fitsBatch (length ids) table replies order mounts ≡ true = sym told ∙ yes in rw (f, is)
 
-    pub batch-refused : b .refusal ≢ 0 → Done table m tenant ids replies order mounts (b .refusal) replies order mounts
+    pub batch-refused : b .refusal ≢ 0 → Done table m tenant ids replies order mounts (b .refusal) table replies order mounts
     unfolding batchStored
-    batch-refused f = rw (stored, ne-eqb (b .refusal) 0 f) (refl, (refl, (refl, refl)))
+    batch-refused f = rw (stored, ne-eqb (b .refusal) 0 f) (refl, (refl, (refl, (refl, refl))))
 
-    pub batch-done : b .refusal ≡ 0 → (replies′ order′ mounts′ : List ℕ)
+    -- the counter takes the sum of the opened counts
+    counted : (opened : ℕ) → opened ≡ total (nth (b .opened)) maxIds → withOpened (tableFrom table) tenant opened ≡ batchTable (tableFrom table) m tenant ids
+    unfolding batchTable openedIn
+    counted opened o = ap (withOpened (tableFrom table) tenant) (o ∙ ap (λ (x : Batch). total (nth (x .opened)) maxIds) is)
+
+    pub batch-done : b .refusal ≡ 0 → (opened : ℕ) → opened ≡ total (nth (b .opened)) maxIds → (table′ replies′ order′ mounts′ : List ℕ)
+        → table′ ≡ withTable table (withOpened (tableFrom table) tenant opened)
         → replies′ ≡ withReplies (lookupPart b) (length ids) replies → order′ ≡ setBelow (nth (b .order)) (length ids) order → mounts′ ≡ set mounts 0 (b .mounts)
-        → Done table m tenant ids replies order mounts 0 replies′ order′ mounts′
+        → Done table m tenant ids replies order mounts 0 table′ replies′ order′ mounts′
     unfolding batchStored
-    batch-done z replies′ order′ mounts′ x y w =
+    batch-done z opened o table′ replies′ order′ mounts′ t x y w =
         rw (stored, eq-eqb (b .refusal) 0 z)
-        (refl, (x ∙ replies-same (lookupPart b) _ (length ids) replies (part-is (tableFrom table) m tenant ids b is z), (y, w)))
+        (refl, (t ∙ ap (withTable table) (counted opened o), (x ∙ replies-same (lookupPart b) _ (length ids) replies (part-is (tableFrom table) m tenant ids b is z), (y, w))))

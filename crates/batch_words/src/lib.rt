@@ -4,6 +4,8 @@ ghost use Prim.Native.Nat.{ℕ, _≤_, _<_, _*_};
 ghost use lib.ListN.{length};
 ghost use Rattle.limits.specs.Limits.{maxIds};
 ghost use Rattle.lists.specs.Below.{nth, setBelow};
+ghost use Rattle.table_words.specs.Words.{tableLength, tableFrom};
+ghost use Rattle.batch.specs.Batch.{batchReply};
 ghost use Rattle.encoding.specs.Encoding.{replyLength};
 ghost use Rattle.replay.specs.Replay.{withReplies};
 ghost use Rattle.batch_words.specs.BatchWords.{lookupPart, fitsBatch, afterBatch};
@@ -11,12 +13,13 @@ use batch_answer::Batch;
 use encoding::REPLY_LENGTH;
 use limits::MAX_IDS;
 use replies::Reply;
+use table_words::TABLE_LENGTH;
 
 // Whether the runs are long enough for a batch of `n` ids.
 fn fits(table: &[u32], n: usize, replies: &[u32], order: &[u32], mounts: &[u32]) -> bool
     ensures { λ r. ⌜ r ≡ fitsBatch n (now (table .entry)) (now (replies .entry)) (now (order .entry)) (now (mounts .entry)) ⌝ }
 {
-    if table.len() < table_words::TABLE_LENGTH {
+    if table.len() < TABLE_LENGTH {
         return false;
     }
     if replies.len() / REPLY_LENGTH < n {
@@ -63,9 +66,21 @@ fn store_front(array: &[u32; MAX_IDS], n: usize, words: &mut [u32])
     }
 }
 
-// Looks many ids up together for a tenant, and stores each id's reply, the order of finding and the number of servers opened.
+// Looks many ids up together for a tenant, on the parts of the words that are the table's columns. The caller counts the servers
+// that were opened.
+fn look_up(words: &[u32], medium: &[u32], tenant: u32, ids: &[u32]) -> Batch
+    requires { ⌜ tableLength ≤ length (now words) ⌝ }
+    ensures { λ r. ⌜ r ≡ batchReply (tableFrom (now (words .entry))) (now (medium .entry)) tenant (now (ids .entry)) ⌝ }
+{
+    let shape = table_words::shape_of(words);
+    let columns = table_words::columns_of(words);
+    batch::lookup_batch_in(shape, columns, medium, tenant, ids)
+}
+
+// Looks many ids up together for a tenant, stores each id's reply, the order of finding and the number of servers opened, and counts
+// in the table what single lookups would.
 pub fn lookup_batch(
-    table: &[u32],
+    table: &mut [u32],
     medium: &[u32],
     tenant: u32,
     ids: &[u32],
@@ -76,6 +91,9 @@ pub fn lookup_batch(
     ensures number { λ r. ⌜ r
         ≡ afterBatch (now (table .entry)) (now (medium .entry)) tenant (now (ids .entry)) (now (replies .entry)) (now (order .entry))
         (now (mounts .entry)) .number ⌝ }
+    ensures table { λ _. ⌜ now (table .exit)
+        ≡ afterBatch (now (table .entry)) (now (medium .entry)) tenant (now (ids .entry)) (now (replies .entry)) (now (order .entry))
+        (now (mounts .entry)) .table ⌝ }
     ensures replies { λ _. ⌜ now (replies .exit)
         ≡ afterBatch (now (table .entry)) (now (medium .entry)) tenant (now (ids .entry)) (now (replies .entry)) (now (order .entry))
         (now (mounts .entry)) .replies ⌝ }
@@ -90,12 +108,13 @@ pub fn lookup_batch(
     if !fits(table, n, replies, order, mounts) {
         return encoding::TOO_SHORT;
     }
-    let batch = batch::lookup_batch(table_words::table_from(table), medium, tenant, ids);
+    let batch = look_up(table, medium, tenant, ids);
     if batch.refusal != 0 {
         return batch.refusal;
     }
     store_replies(batch, n, replies);
     store_front(&batch.order, n, order);
     mounts[0] = batch.mounts as u32;
+    call_words::count_opened(table, tenant, batch_answer::sum(&batch.opened));
     0
 }

@@ -1,27 +1,32 @@
 -- What a call ensures, by whether the runs are long enough.
 -- Assumes nothing.
 use Prim.Native.Nat.{ℕ, _≤_, _<_}
-use mathlib.Core.Path.{_≡_, refl, ap, _∙_}
+use mathlib.Core.Path.{_≡_, refl, ap, ap₂, _∙_}
 use mathlib.Core.Logic.{_≢_}
 use mathlib.Core.Bool.{false}
 use mathlib.Core.List.{List}
 use mathlib.Core.Option.{Option}
 use native.Mathlib.Omega.{arith}
-use lib.ListN.{length}
+use lib.ListN.{length, length-set}
+use lib.Dec.{eqb}
 use borrow.Author.Tests.{le-leb, lt-leb}
 use Rattle.lists.specs.Below.{nth}
+use Rattle.lists.proofs.Tests.{byBool}
 use Rattle.table.specs.declared.Table.{Table}
-use Rattle.table_words.specs.Words.{usedOffset, tableLength, columnFrom, tableFrom, withTable}
+use Rattle.table.proofs.Soundness.{Arrays}
+use Rattle.table_words.specs.Words.{usedOffset, tableLength, columnFrom, countersFrom, tableFrom, withTable}
+use Rattle.table_words.proofs.Lent.{length-column, lent-arrays, stored-lent}
+use Rattle.upkeep.specs.Upkeep.{oneMore, withOpened}
 use Rattle.replies.specs.Number.{addServerNumber, reweightNumber, writeNumber}
 use Rattle.replies.specs.declared.Reply.{Reply}
 use Rattle.history.specs.Call.{Call}
 use Rattle.history.specs.Machine.{State}
 use Rattle.encoding.specs.Encoding.{callLength, replyLength, tooShort, withReplyAt}
 use Rattle.dispatch.specs.ByNumber.{callOf, callAt, replyTo, nextBy, usedAfter}
-use Rattle.dispatch.proofs.Calling.{counts, called-in}
-use Rattle.call_words.proofs.Kept.{call-count}
+use Rattle.dispatch.proofs.Calling.{withUsed, counts, called-in}
+use Rattle.call_words.proofs.Kept.{call-count, stored-again}
 use Rattle.call_words.specs.CallWords.{lent, fitsCall, afterCall, withColumn}
-use Rattle.call_words.proofs.Columns.{used-stored, length-column}
+use Rattle.call_words.proofs.Columns.{used-stored}
 
 -- what `run` ensures
 abbrev pub Ran : List ℕ → List ℕ → Option Call → Reply → List ℕ → List ℕ → Type 0
@@ -36,6 +41,13 @@ by-value words m o r t t′ words′ m′ e a b c d = (rw e at a, (d ∙ ap (wit
 pub count-fits : (S : State) (o : Option Call) (t : Table) → t ≡ nextBy S o .table → S .table .count < 4294967296 → t .count < 4294967296
 count-fits S o t e l = omega (arith, call-count S o l, ap (λ (u : Table). u .count) e)
 
+-- to count an entry changes no length
+length-usedAfter : (used : List ℕ) (number : ℕ) (r : Reply) → length (usedAfter used number r) ≡ length used
+unfolding usedAfter oneMore
+length-usedAfter used number r = byBool (eqb number writeNumber)
+    (λ d. rw d (byBool (eqb (r .refusal) 0) (λ z. rw z (length-set used (r .server) _)) (λ z. rw z)))
+    (λ d. rw d)
+
 -- a call but add_server and reweight, whose reply is r: where its entry is counted, and the words after it
 module _ (words m : List ℕ) (number tenant subject amount : ℕ) (l : tableLength ≤ length words) (r : Reply) (e : r ≡ replyTo (lent words m) (callOf number tenant subject amount)) where
   pub counts-there : number ≡ writeNumber → r .refusal ≡ 0 → (r .server < 256) × (nth (columnFrom words usedOffset) (r .server) < 65536)
@@ -45,13 +57,35 @@ module _ (words m : List ℕ) (number tenant subject amount : ℕ) (l : tableLen
       let c = counts (lent words m) number tenant subject amount r e long d z in
       (omega (arith, c .0, long), c .1)
 
-  pub counted-words : number ≢ addServerNumber → number ≢ reweightNumber
-      → withColumn words usedOffset (usedAfter (columnFrom words usedOffset) number r) ≡ withTable words (nextBy (lent words m) (callOf number tenant subject amount) .table)
+  -- the table with the entry of a write counted, which has whole arrays
+  abbrev entered : Table
+  entered = withUsed (tableFrom words) (usedAfter (columnFrom words usedOffset) number r) (countersFrom words)
+
+  entered-arrays : Arrays entered
   unfolding tableFrom
-  counted-words a b =
+  entered-arrays =
+      let a = lent-arrays words l in
+      record {
+        weights = a .weights;
+        used = length-usedAfter (columnFrom words usedOffset) number r ∙ a .used;
+        numerators = a .numerators;
+        denominators = a .denominators;
+        counters = a .counters;
+      }
+
+  -- the words after that, and after the servers opened are counted too
+  pub counted-words : number ≢ addServerNumber → number ≢ reweightNumber → (words₁ words₂ : List ℕ)
+      → words₁ ≡ withColumn words usedOffset (usedAfter (columnFrom words usedOffset) number r) → words₂ ≡ withTable words₁ (withOpened (tableFrom words₁) tenant (r .opened))
+      → words₂ ≡ withTable words (nextBy (lent words m) (callOf number tenant subject amount) .table)
+  unfolding tableFrom withOpened
+  counted-words a b words₁ words₂ f g =
       let used = usedAfter (columnFrom words usedOffset) number r in
-      used-stored words used l
-      ∙ ap (withTable words) (called-in (lent words m) number tenant subject amount r e used _ a b refl refl .1 .0)
+      let one : words₁ ≡ withTable words entered = f ∙ used-stored words used l in
+      let table : tableFrom words₁ ≡ entered = ap tableFrom one ∙ stored-lent words entered l entered-arrays in
+      g
+      ∙ ap₂ (λ (w : List ℕ) (t : Table). withTable w (withOpened t tenant (r .opened))) one table
+      ∙ stored-again words entered _ l entered-arrays
+      ∙ ap (withTable words) (called-in (lent words m) number tenant subject amount r e used _ _ a b refl refl refl .1 .0)
 
 -- what `call` ensures where it answers n
 abbrev pub Done : List ℕ → List ℕ → List ℕ → List ℕ → ℕ → List ℕ → List ℕ → List ℕ → Type 0

@@ -10,40 +10,33 @@ use lib.Seq.{drop-at}
 use borrow.Author.Tests.{le-ltb}
 use Rattle.table.specs.declared.Table.{Table}
 use Rattle.table.proofs.Soundness.{Arrays}
-use Rattle.table_words.specs.Words.{weightsOffset, usedOffset, numeratorsOffset, denominatorsOffset, tableLength, tableFrom, wordsOf, withTable}
-use Rattle.table_words.proofs.Lent.{stored-lent}
-use Rattle.upkeep.specs.Upkeep.{withServer, withWeight, withEntry}
-use Rattle.upkeep.proofs.Upkeep.{withServer-arrays, withWeight-arrays, withEntry-arrays}
+use Rattle.table_words.specs.Words.{tableLength, tableFrom, wordsOf, withTable}
+use Rattle.table_words.proofs.Lent.{lent-arrays, stored-lent}
+use Rattle.upkeep.specs.Upkeep.{withServer, withWeight, withEntry, withOpened}
+use Rattle.upkeep.proofs.Upkeep.{withServer-arrays, withWeight-arrays, withEntry-arrays, withOpened-arrays}
 use Rattle.replies.proofs.Refusals.{settle-either}
+use Rattle.lookup.specs.Lookup.{lookupTable}
 use Rattle.planning.specs.WriteRows.{target, writeRows}
 use Rattle.writing.specs.Writing.{writeTable}
 use Rattle.server_rows.specs.ServerRows.{addServerRows, reweightRows}
 use Rattle.server_rows.proofs.Accepted.{addServer-accepted}
 use Rattle.servers.specs.Servers.{addServerTable, reweightTable}
+use Rattle.batch.specs.Batch.{batchTable}
 use Rattle.history.specs.Call.{Call, addServer, reweight, write, delete, lookup, batch}
 use Rattle.history.specs.Machine.{State, next}
 use Rattle.dispatch.specs.ByNumber.{nextBy}
 use Rattle.call_words.specs.CallWords.{lent}
-use Rattle.call_words.proofs.Columns.{length-column, long-table}
+use Rattle.call_words.proofs.Columns.{long-table}
 
--- a table lent as words has whole arrays, and a call keeps them so
-pub lent-arrays : (words : List ℕ) → tableLength ≤ length words → Arrays (tableFrom words)
-unfolding tableFrom
-lent-arrays words l = record {
-  weights = length-column words weightsOffset (omega arith);
-  used = length-column words usedOffset (omega arith);
-  numerators = length-column words numeratorsOffset (omega arith);
-  denominators = length-column words denominatorsOffset (omega arith);
-}
-
+-- a call keeps the arrays whole
 next-arrays : (S : State) (c : Call) → Arrays (S .table) → Arrays (next S c .table)
-unfolding next addServerTable reweightTable writeTable
+unfolding next addServerTable reweightTable writeTable lookupTable batchTable
 next-arrays S (addServer weight) a = settle-either (addServerRows (S .table) (S .medium) weight) _ _ Arrays (λ _. withServer-arrays (S .table) weight a) a
 next-arrays S (reweight server weight) a = settle-either (reweightRows (S .table) server weight) _ _ Arrays (λ _. withWeight-arrays (S .table) server weight a) a
 next-arrays S (write tenant id value) a = settle-either (writeRows (S .table) (S .medium) tenant id value) _ _ Arrays (λ _. withEntry-arrays (S .table) (target (S .table) id) a) a
 next-arrays S (delete tenant id) a = a
-next-arrays S (lookup tenant id) a = a
-next-arrays S (batch tenant ids) a = a
+next-arrays S (lookup tenant id) a = withOpened-arrays (S .table) tenant _ a
+next-arrays S (batch tenant ids) a = withOpened-arrays (S .table) tenant _ a
 
 pub call-arrays : (S : State) (o : Option Call) → Arrays (S .table) → Arrays (nextBy S o .table)
 unfolding nextBy
@@ -55,11 +48,11 @@ pub length-stored : (words : List ℕ) (t : Table) → tableLength ≤ length wo
 unfolding withTable wordsOf
 length-stored words t l a =
     rw (le-ltb (length words) tableLength l)
-    (simp length-append (omega (arith, a .weights, a .used, a .numerators, a .denominators, length-drop tableLength words)))
+    (simp length-append (omega (arith, a .weights, a .used, a .numerators, a .denominators, a .counters, length-drop tableLength words)))
 
 length-words : (t : Table) → Arrays t → length (wordsOf t) ≡ tableLength
 unfolding wordsOf
-length-words t a = simp length-append (omega (arith, a .weights, a .used, a .numerators, a .denominators))
+length-words t a = simp length-append (omega (arith, a .weights, a .used, a .numerators, a .denominators, a .counters))
 
 rest-stored : (words : List ℕ) (t : Table) → tableLength ≤ length words → Arrays t → drop tableLength (withTable words t) ≡ drop tableLength words
 rest-stored words t l a = ap (drop tableLength) (sym (long-table words t l)) ∙ drop-at (wordsOf t) (drop tableLength words) tableLength (length-words t a)
@@ -87,7 +80,7 @@ Fits t = t .count < 4294967296
 
 -- a call leaves it so: it changes it only where the table is sound, and so the count small
 next-count : (S : State) (c : Call) → Fits (S .table) → Fits (next S c .table)
-unfolding next addServerTable reweightTable writeTable withServer withWeight withEntry
+unfolding next addServerTable reweightTable writeTable lookupTable batchTable withServer withWeight withEntry withOpened
 next-count S (addServer weight) l =
     settle-either (addServerRows (S .table) (S .medium) weight) _ _ Fits (λ z. omega (arith, addServer-accepted (S .table) (S .medium) weight z .few)) l
 next-count S (reweight server weight) l = settle-either (reweightRows (S .table) server weight) _ _ Fits (λ z. l) l

@@ -7,7 +7,8 @@ ghost use lib.ListN.{length};
 ghost use Rattle.limits.specs.Limits.{maxServers, maxCapacity};
 ghost use Rattle.lists.specs.Below.{nth};
 ghost use Rattle.draws.specs.Draw.{areSteps};
-ghost use Rattle.table_words.specs.Words.{usedOffset, tableLength, columnFrom, withTable};
+ghost use Rattle.table_words.specs.Words.{usedOffset, tableLength, columnFrom, tableFrom, withTable};
+ghost use Rattle.upkeep.specs.Upkeep.{withOpened};
 ghost use Rattle.replies.specs.Number.{addServerNumber, reweightNumber, writeNumber};
 ghost use Rattle.dispatch.specs.ByNumber.{callOf, replyTo, nextBy, usedAfter};
 ghost use Rattle.call_words.specs.CallWords.{lent, afterCall, withColumn};
@@ -19,18 +20,12 @@ use encoding::SUBJECT_OFFSET;
 use encoding::TENANT_OFFSET;
 use replies::Reply;
 use replies::WRITE;
-use table::Columns;
-use table::Shape;
-use table_words::CAPACITY_OFFSET;
-use table_words::COUNT_OFFSET;
-use table_words::DENOMINATORS_OFFSET;
+use table_words::COUNTERS_OFFSET;
 use table_words::NUMERATORS_OFFSET;
-use table_words::SALT_OFFSET;
 use table_words::TABLE_LENGTH;
 use table_words::USED_OFFSET;
-use table_words::WEIGHTS_OFFSET;
 
-// Runs a call but add_server and reweight. `count` then makes the table after it.
+// Runs a call but add_server and reweight. `count` and `count_opened` then make the table after it.
 fn run_on(
     words: &[u32],
     steps: &[u32],
@@ -46,17 +41,8 @@ fn run_on(
     ensures reply { λ r. ⌜ r ≡ replyTo (lent (now (words .entry)) (now (medium .entry))) (callOf number tenant subject amount) ⌝ }
     ensures medium { λ _. ⌜ now (medium .exit) ≡ nextBy (lent (now (words .entry)) (now (medium .entry))) (callOf number tenant subject amount) .medium ⌝ }
 {
-    let shape = Shape {
-        capacity: words[CAPACITY_OFFSET],
-        salt: words[SALT_OFFSET],
-        count: words[COUNT_OFFSET] as usize,
-    };
-    let columns: Columns = [
-        &words[WEIGHTS_OFFSET..USED_OFFSET],
-        &words[USED_OFFSET..NUMERATORS_OFFSET],
-        &words[NUMERATORS_OFFSET..DENOMINATORS_OFFSET],
-        &words[DENOMINATORS_OFFSET..TABLE_LENGTH],
-    ];
+    let shape = table_words::shape_of(words);
+    let columns = table_words::columns_of(words);
     dispatch::run_in(
         shape,
         columns,
@@ -77,6 +63,14 @@ fn count(words: &mut [u32], number: u32, reply: Reply)
     ensures { λ _. ⌜ now (words .exit) ≡ withColumn (now (words .entry)) usedOffset (usedAfter (columnFrom (now (words .entry)) usedOffset) number reply) ⌝ }
 {
     dispatch::count_write(&mut words[USED_OFFSET..NUMERATORS_OFFSET], number, reply);
+}
+
+// Counts the servers that were opened for a tenant.
+pub fn count_opened(words: &mut [u32], tenant: u32, opened: usize)
+    requires { ⌜ tableLength ≤ length (now words) ⌝ }
+    ensures { λ _. ⌜ now (words .exit) ≡ withTable (now (words .entry)) (withOpened (tableFrom (now (words .entry))) tenant opened) ⌝ }
+{
+    counters::count(&mut words[COUNTERS_OFFSET..TABLE_LENGTH], tenant, opened);
 }
 
 // Runs a call by its number on a table lent as words. The call comes first: so its numbers, the id among them that a scan compares
@@ -110,6 +104,7 @@ pub fn run(
     }
     let reply = run_on(table, steps, medium, number, tenant, subject, amount);
     count(table, number, reply);
+    count_opened(table, tenant, reply.opened);
     reply
 }
 

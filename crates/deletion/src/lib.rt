@@ -53,6 +53,7 @@ pub fn delete(table: Table, medium: &mut [u32], tenant: u32, id: u32) -> DeleteA
         &table.used,
         &table.numerators,
         &table.denominators,
+        &table.counters,
     ];
     delete_in(shape, columns, &steps, medium, tenant, id)
 }

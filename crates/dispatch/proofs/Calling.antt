@@ -1,7 +1,7 @@
 -- One call by its number: its reply, the table and the medium after it, and that its reply fits words.
 -- Assumes nothing.
 use Prim.Native.Nat.{ℕ, _<_}
-use mathlib.Core.Path.{_≡_, sym, ap, _∙_}
+use mathlib.Core.Path.{_≡_, refl, sym, ap, ap₂, _∙_}
 use mathlib.Core.Logic.{_≢_}
 use mathlib.Core.List.{List}
 use lib.ListN.{length}
@@ -10,12 +10,18 @@ use native.Mathlib.Omega.{arith}
 use lib.Dec.{eqb}
 use borrow.Author.Tests.{eqb-true, eqb-false, ne-eqb}
 use Rattle.lists.proofs.Tests.{byBool}
+use Rattle.counters.specs.Counter.{counted}
+use Rattle.counters.proofs.Counters.{counted-none}
 use Rattle.table.specs.declared.Table.{Table}
 use Rattle.table.specs.Parts.{shapeOf, tableBy, usedOf}
-use Rattle.upkeep.specs.Upkeep.{withEntry}
+use Rattle.upkeep.specs.Upkeep.{withEntry, withOpened}
 use Rattle.table.proofs.Soundness.{sound-facts}
 use Rattle.replies.specs.Number.{addServerNumber, reweightNumber, writeNumber, deleteNumber, lookupNumber}
 use Rattle.replies.specs.declared.Reply.{Reply}
+use Rattle.replies.proofs.Answers.{reply-unopened}
+use Rattle.lookup.specs.Lookup.{lookupReply, lookupTable}
+use Rattle.deletion.specs.Deletion.{deleteReply}
+use Rattle.servers.specs.Servers.{addServerReply, reweightReply}
 use Rattle.writing.specs.Writing.{writeReply, writeTable}
 use Rattle.writing.proofs.Accepted.{WrittenTo, written-to, table-kept}
 use Rattle.archive.proofs.Small.{Small, addServer-small, reweight-small, write-small, delete-small, lookup-small}
@@ -32,20 +38,33 @@ pub no-call : (number tenant subject amount : ℕ) → number ≢ addServerNumbe
 unfolding callOf
 no-call number tenant subject amount a b c d e = rw (ne-eqb number addServerNumber a, ne-eqb number reweightNumber b, ne-eqb number writeNumber c, ne-eqb number deleteNumber d, ne-eqb number lookupNumber e)
 
--- a table with other used entries
-abbrev pub withUsed : Table → List ℕ → Table
-withUsed t used = tableBy (shapeOf t) (t .weights) used (t .numerators) (t .denominators)
+-- a table with other used entries and counters
+abbrev pub withUsed : Table → List ℕ → List ℕ → Table
+withUsed t used counters = tableBy (shapeOf t) (t .weights) used (t .numerators) (t .denominators) counters
 
 module _ (S : State) (number tenant subject amount : ℕ) where
-  -- the table after a write, and after delete, lookup or no call
+  -- the table after a write, after a lookup, and after delete or no call
   written-table : number ≡ writeNumber → writeTable (S .table) (S .medium) tenant subject amount ≡ nextBy S (callOf number tenant subject amount) .table
   unfolding callOf nextBy next
   written-table d = rw d
 
-  same-table : number ≢ addServerNumber → number ≢ reweightNumber → number ≢ writeNumber → nextBy S (callOf number tenant subject amount) .table ≡ S .table
+  looked-table : number ≡ lookupNumber → lookupTable (S .table) (S .medium) tenant subject ≡ nextBy S (callOf number tenant subject amount) .table
   unfolding callOf nextBy next
-  same-table a b c = rw (ne-eqb number addServerNumber a, ne-eqb number reweightNumber b, ne-eqb number writeNumber c)
-      (byBool (eqb number deleteNumber) (λ d. rw d) (λ d. rw d (byBool (eqb number lookupNumber) (λ d. rw d) (λ d. rw d))))
+  looked-table d = rw d
+
+  same-table : number ≢ addServerNumber → number ≢ reweightNumber → number ≢ writeNumber → number ≢ lookupNumber → nextBy S (callOf number tenant subject amount) .table ≡ S .table
+  unfolding callOf nextBy next
+  same-table a b c l = rw (ne-eqb number addServerNumber a, ne-eqb number reweightNumber b, ne-eqb number writeNumber c, ne-eqb number lookupNumber l)
+      (byBool (eqb number deleteNumber) (λ d. rw d) (λ d. rw d))
+
+  -- no reply but a lookup's carries an opened count
+  unopened : number ≢ lookupNumber → replyTo S (callOf number tenant subject amount) .opened ≡ 0
+  unfolding callOf replyTo reply addServerReply reweightReply writeReply deleteReply
+  unopened l = rw (ne-eqb number lookupNumber l)
+      (byBool (eqb number addServerNumber) (λ d. rw d (reply-unopened _ _ refl)) (λ d. rw d
+      (byBool (eqb number reweightNumber) (λ d. rw d (reply-unopened _ _ refl)) (λ d. rw d
+      (byBool (eqb number writeNumber) (λ d. rw d (reply-unopened _ _ refl)) (λ d. rw d
+      (byBool (eqb number deleteNumber) (λ d. rw d (reply-unopened _ _ refl)) (λ d. rw d refl))))))))
 
   -- by its reply: whether and where an entry is counted, and the table with it
   module _ (r : Reply) (e : r ≡ replyTo S (callOf number tenant subject amount)) where
@@ -64,20 +83,41 @@ module _ (S : State) (number tenant subject amount : ℕ) where
         let s = sound-facts (S .table) (f .isSound) in
         (omega arith, omega arith)
 
-    counted : (used : List ℕ) → number ≢ addServerNumber → number ≢ reweightNumber → used ≡ usedAfter (S .table .used) number r
-        → withUsed (S .table) used ≡ nextBy S (callOf number tenant subject amount) .table
+    looked-here : number ≡ lookupNumber → r ≡ lookupReply (S .table) (S .medium) tenant subject
+    unfolding callOf replyTo reply
+    looked-here d = e ∙ rw d
+
+    -- the counters of a call that is no lookup
+    uncounted : number ≢ lookupNumber → counted (S .table .counters) tenant (r .opened) ≡ S .table .counters
+    uncounted l = ap (counted (S .table .counters) tenant) (ap (λ (x : Reply). x .opened) e ∙ unopened l) ∙ counted-none (S .table .counters) tenant
+
+    -- the entry of a write, or the servers that a lookup opened
+    entered : number ≢ addServerNumber → number ≢ reweightNumber → number ≢ lookupNumber
+        → withUsed (S .table) (usedAfter (S .table .used) number r) (S .table .counters) ≡ nextBy S (callOf number tenant subject amount) .table
     unfolding usedAfter withEntry
-    counted used a b u = ap (withUsed (S .table)) u ∙ byBool (eqb number writeNumber)
+    entered a b l = byBool (eqb number writeNumber)
         (λ d.
         let is = eqb-true number writeNumber d in
         rw d (byBool (eqb (r .refusal) 0)
         (λ z. rw z (written-to-here is (eqb-true (r .refusal) 0 z) .table ∙ written-table is))
         (λ z. rw z (table-kept (S .table) (S .medium) tenant subject amount r (written-here is) (eqb-false (r .refusal) 0 z) ∙ written-table is))))
-        (λ d. rw d (sym (same-table a b (eqb-false number writeNumber d))))
+        (λ d. rw d (sym (same-table a b (eqb-false number writeNumber d) l)))
 
-    pub called-in : (used medium : List ℕ) → number ≢ addServerNumber → number ≢ reweightNumber → used ≡ usedAfter (S .table .used) number r
-        → medium ≡ nextBy S (callOf number tenant subject amount) .medium → Called S (callOf number tenant subject amount) r (withUsed (S .table) used) medium
-    called-in used medium a b u d = (e, (counted used a b u, d))
+    looked : number ≡ lookupNumber → withUsed (S .table) (usedAfter (S .table .used) number r) (counted (S .table .counters) tenant (r .opened)) ≡ nextBy S (callOf number tenant subject amount) .table
+    unfolding usedAfter lookupTable withOpened
+    looked d = rw d (ap (λ (x : Reply). withOpened (S .table) tenant (x .opened)) (looked-here d)) ∙ looked-table d
+
+    all-counted : (used counters : List ℕ) → number ≢ addServerNumber → number ≢ reweightNumber → used ≡ usedAfter (S .table .used) number r → counters ≡ counted (S .table .counters) tenant (r .opened)
+        → withUsed (S .table) used counters ≡ nextBy S (callOf number tenant subject amount) .table
+    all-counted used counters a b u c = ap₂ (withUsed (S .table)) u c ∙ byBool (eqb number lookupNumber)
+        (λ d. looked (eqb-true number lookupNumber d))
+        (λ d.
+        let l = eqb-false number lookupNumber d in
+        ap (withUsed (S .table) (usedAfter (S .table .used) number r)) (uncounted l) ∙ entered a b l)
+
+    pub called-in : (used counters medium : List ℕ) → number ≢ addServerNumber → number ≢ reweightNumber → used ≡ usedAfter (S .table .used) number r → counters ≡ counted (S .table .counters) tenant (r .opened)
+        → medium ≡ nextBy S (callOf number tenant subject amount) .medium → Called S (callOf number tenant subject amount) r (withUsed (S .table) used counters) medium
+    called-in used counters medium a b u c d = (e, (all-counted used counters a b u c, d))
 
 -- what the code stores of its reply as a cast fits a word
 replyTo-small : (S : State) (o : Option Call) → Small (replyTo S o)

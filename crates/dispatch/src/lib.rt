@@ -53,7 +53,8 @@ fn no_call() -> Reply
     }
 }
 
-// Runs a call but add_server and reweight on a table whose columns are borrowed. `count_write` then makes the table after it.
+// Runs a call but add_server and reweight on a table whose columns are borrowed. `count_write` and `counters::count` then make the
+// table after it.
 pub fn run_in<'a>(
     shape: Shape,
     columns: Columns<'a>,
@@ -89,7 +90,7 @@ pub fn run_in<'a>(
     }
 }
 
-// Counts the entry of an accepted write as used on its server; no other call but add_server and reweight changes the table.
+// Counts the entry of an accepted write as used on its server.
 pub fn count_write(used: &mut [u32], number: u32, reply: Reply)
     requires { ⌜ (number ≡ writeNumber → reply .refusal ≡ 0 → (reply .server < length (now used)) × (nth (now used) (reply .server) < maxCapacity)) ⌝ }
     ensures { λ _. ⌜ now (used .exit) ≡ usedAfter (now (used .entry)) number reply ⌝ }

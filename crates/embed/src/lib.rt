@@ -7,15 +7,15 @@ ghost use Rattle.placement.specs.Rule.{writeServer};
 ghost use Rattle.picks.specs.Picks.{picksOf};
 ghost use Rattle.table_words.specs.Words.{tableLength, withTable};
 ghost use Rattle.servers.specs.Servers.{startTable};
-ghost use Rattle.history.specs.Machine.{after};
-ghost use Rattle.replay.specs.Replay.{callsBelow, withReplies, runs, startState, replyAt, LedgerWords};
+ghost use Rattle.history.specs.Machine.{after, startState};
+ghost use Rattle.replay.specs.Replay.{callsBelow, withReplies, runs, replyAt, LedgerWords};
 ghost use Rattle.call_words.specs.CallWords.{lent, afterCall};
 ghost use Rattle.replay.specs.Lent.{resumes};
 ghost use Rattle.batch_words.specs.BatchWords.{afterBatch};
 ghost use Rattle.embed.specs.Embed.{version, startNumber};
 
 // The version of the interface: it grows when a signature or an encoding changes.
-const VERSION: u32 = 3;
+const VERSION: u32 = 4;
 
 #[no_mangle]
 pub extern "C" fn archive_abi() -> u32
@@ -115,10 +115,11 @@ pub extern "C" fn archive_picks(
     picks::picks(weights, salt, ids, servers)
 }
 
-// Looks many ids up together for a tenant, and stores each id's reply, the order of finding and the number of servers opened.
+// Looks many ids up together for a tenant, stores each id's reply, the order of finding and the number of servers opened, and counts
+// in the table what single lookups would.
 #[no_mangle]
 pub extern "C" fn archive_lookup_batch(
-    table: &[u32],
+    table: &mut [u32],
     medium: &[u32],
     tenant: u32,
     ids: &[u32],
@@ -129,6 +130,9 @@ pub extern "C" fn archive_lookup_batch(
     ensures number { λ r. ⌜ r
         ≡ afterBatch (now (table .entry)) (now (medium .entry)) tenant (now (ids .entry)) (now (replies .entry)) (now (order .entry))
         (now (mounts .entry)) .number ⌝ }
+    ensures table { λ _. ⌜ now (table .exit)
+        ≡ afterBatch (now (table .entry)) (now (medium .entry)) tenant (now (ids .entry)) (now (replies .entry)) (now (order .entry))
+        (now (mounts .entry)) .table ⌝ }
     ensures replies { λ _. ⌜ now (replies .exit)
         ≡ afterBatch (now (table .entry)) (now (medium .entry)) tenant (now (ids .entry)) (now (replies .entry)) (now (order .entry))
         (now (mounts .entry)) .replies ⌝ }

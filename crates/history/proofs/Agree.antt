@@ -22,6 +22,9 @@ use Rattle.table.specs.declared.Table.{Table}
 use Rattle.table.specs.Parts.{weightOf, usedOf, readP, reads}
 use Rattle.table.specs.Sound.{sound}
 use Rattle.table.proofs.Soundness.{Arrays}
+use Rattle.upkeep.specs.Upkeep.{withOpened}
+use Rattle.upkeep.proofs.Upkeep.{withOpened-arrays}
+use Rattle.upkeep.proofs.KeptSound.{withOpened-sound}
 use Rattle.replies.specs.Refusal.{Row, firstOf}
 use Rattle.replies.specs.declared.Reply.{Reply}
 use Rattle.replies.specs.Reply.{refused, replyBy}
@@ -48,6 +51,22 @@ pub record Agree (t : Table) (m : List ℕ) (L : Ledger) : Type 0 where
   pub readPs : (k : ℕ) → k < t .count → readP t k ≡ L .greatest k
   pub words : length m ≡ L .words
   pub holds : Holds (t .capacity) (t .count) (readsL L) (L .events) m
+
+-- servers opened for a tenant are no matter of the ledger's
+pub agree-opened : {t : Table} {m : List ℕ} {L : Ledger} → Agree t m L → (tenant opened : ℕ) → Agree (withOpened t tenant opened) m L
+unfolding withOpened
+agree-opened {t = t} A tenant opened = record {
+  isSound = withOpened-sound t tenant opened ∙ A .isSound;
+  arrays = withOpened-arrays t tenant opened (A .arrays);
+  capacity = A .capacity;
+  salt = A .salt;
+  count = A .count;
+  weights = A .weights;
+  used = A .used;
+  readPs = A .readPs;
+  words = A .words;
+  holds = A .holds;
+}
 
 -- the ledger's way to change one place
 module _ {X : Type 0} (f : ℕ → X) (k : ℕ) (x : X) where

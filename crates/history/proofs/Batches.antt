@@ -15,7 +15,7 @@ use Rattle.search.specs.Opened.{lowest, opens}
 use Rattle.lookup.specs.Lookup.{lookupRows}
 use Rattle.lookup.proofs.Passed.{lookup-asked}
 use Rattle.batch_answer.proofs.Orders.{batch-cong}
-use Rattle.batch.specs.Batch.{lookupOpens, openedAt, batchReply, batchRows}
+use Rattle.batch.specs.Batch.{lookupOpens, openedAt, batchReply, batchRows, batchTable}
 use Rattle.batch_answer.specs.Answer.{tooLong, batchBy, settledBatch}
 use Rattle.batch_answer.specs.declared.Batch.{Batch}
 use Rattle.replies.specs.Refusal.{firstOf, settle}
@@ -24,7 +24,7 @@ use Rattle.history.specs.Machine.{inBrief}
 use Rattle.history.specs.Ledger.{Event, Ledger, told, Version, lastWriteOf, lookupRowsL, rowsOf, doneOf, enter, lowestL, opensL, openedAtL, batchL, batchRowsL}
 use Rattle.history.proofs.Entering.{entered}
 use Rattle.history.proofs.Events.{placeOf, came-placed, none-placed}
-use Rattle.history.proofs.Agree.{Agree, Step, same-reads, same-met}
+use Rattle.history.proofs.Agree.{Agree, agree-opened, Step, same-reads, same-met}
 use Rattle.history.proofs.LookupStep.{same-rows, lookup-step}
 
 lowest-from : (events : List Event) (id : ℕ) (o : Option Version) → lastWriteOf events id ≡ o → lowest (placeOf events id) ≡ lowestL o
@@ -54,10 +54,10 @@ module _ {t : Table} {m : List ℕ} {L : Ledger} (A : Agree t m L) where
   unfolding batchL settledBatch batchBy settle
   batch-number tenant ids = byBool (eqb (firstOf (batchRowsL ids)) 0) (λ e. rw e (sym (eqb-true (firstOf (batchRowsL ids)) 0 e))) (λ e. rw e)
 
-  pub batch-step : (tenant : ℕ) (ids : List ℕ) → Step (inBrief (batchReply t m tenant ids)) t m (enter L (batch tenant ids))
-  unfolding enter rowsOf doneOf compared
+  pub batch-step : (tenant : ℕ) (ids : List ℕ) → Step (inBrief (batchReply t m tenant ids)) (batchTable t m tenant ids) m (enter L (batch tenant ids))
+  unfolding enter rowsOf doneOf compared batchTable
   batch-step tenant ids =
       let e = ap (λ (b : Batch). b .refusal) (same-batch tenant ids) ∙ batch-number tenant ids in
-      entered (Step (inBrief (batchReply t m tenant ids)) t m) L (batchRowsL ids) _
-      (λ z. record { alike = ap (λ (n : ℕ). told n 0 0 0) (e ∙ z); agrees = A })
-      (λ f. record { alike = ap (λ (n : ℕ). told n 0 0 0) e; agrees = A })
+      entered (Step (inBrief (batchReply t m tenant ids)) (batchTable t m tenant ids) m) L (batchRowsL ids) _
+      (λ z. record { alike = ap (λ (n : ℕ). told n 0 0 0) (e ∙ z); agrees = agree-opened A tenant _ })
+      (λ f. record { alike = ap (λ (n : ℕ). told n 0 0 0) e; agrees = agree-opened A tenant _ })

@@ -22,14 +22,15 @@ use Rattle.medium.specs.Entry.{serverAt, serverWords, entryAt, bearsAt, live, b
 use Rattle.medium.specs.Burn.{Burn, burnAll, marksOn, marksOver, invalidations}
 use Rattle.table.specs.declared.Table.{Table}
 use Rattle.table.specs.Sound.{inRange, readSound, serverSound, sound}
-use Rattle.upkeep.specs.Upkeep.{withServer, withWeight, oneMore, withEntry}
+use Rattle.upkeep.specs.Upkeep.{withServer, withWeight, oneMore, withEntry, withOpened}
+use Rattle.counters.specs.Counter.{grown, counted, inBounds}
 use Rattle.replies.specs.Refusal.{Row, _when_, firstOf, settle}
 use Rattle.replies.specs.Reply.{refused, found, replyBy}
 use Rattle.replies.specs.declared.Reply.{Reply}
 use Rattle.replies.proofs.Refusals.{settle-both}
 use Rattle.search.specs.Search.{lastLive, opening, searchBelow, searchFor}
 use Rattle.checks.specs.Ready.{short, readyRows, askedRows}
-use Rattle.lookup.specs.Lookup.{lookupRows, metReply, lookupReply}
+use Rattle.lookup.specs.Lookup.{lookupRows, metReply, lookupReply, lookupTable}
 use Rattle.deletion.specs.Deletion.{isMet, deleteRows, deleteMarks, deleteReply, deleteMedium}
 use Rattle.planning.specs.WriteRows.{target, entryRows, writeRows}
 use Rattle.writing.specs.Writing.{writeMarks, writeBurns, writeReply, writeTable, writeMedium}
@@ -37,7 +38,7 @@ use Rattle.server_rows.specs.ServerRows.{startRows, addServerRows, reweightRows
 use Rattle.servers.specs.Servers.{startTable, addServerReply, addServerTable, reweightReply, reweightTable}
 use Rattle.history.specs.Call.{Call, addServer, reweight, write, delete, lookup, compared}
 use Rattle.history.specs.Machine.{State, reply, next, after, replies, begin}
-use Rattle.history.specs.Example.{calls, expected, Example}
+use Rattle.history.specs.Example.{calls, expected, counters, Example}
 use Rattle.history.proofs.Theorem.{demand3}
 
 -- a state by its two parts
@@ -68,10 +69,11 @@ module _ (rest : List ℕ) where
   record Alike (t : Table) (m : List ℕ) (cs : List Call) : Type 0 where
     said : replies (state t (m ++ rest)) cs ≡ replies (state t m) cs
     left : after (state t (m ++ rest)) cs .medium ≡ after (state t m) cs .medium ++ rest
+    table : after (state t (m ++ rest)) cs .table ≡ after (state t m) cs .table
 
   no-calls : {t : Table} {m : List ℕ} → Alike t m []
   unfolding replies after
-  no-calls = record { said = refl; left = refl }
+  no-calls = record { said = refl; left = refl; table = refl }
 
   one-call : {t u : Table} {m w : List ℕ} {c : Call} {cs : List Call} → reply (state t (m ++ rest)) c ≡ reply (state t m) c
       → next (state t (m ++ rest)) c ≡ state (next (state t m) c .table) (next (state t m) c .medium ++ rest)
@@ -83,6 +85,7 @@ module _ (rest : List ℕ) where
       record {
         said = ap₂ (λ (x : Reply) (l : List Reply). x ∷ l) r (ap (λ (S : State). replies S cs) f ∙ s .said ∙ ap (λ (S : State). replies S cs) (sym e));
         left = ap (λ (S : State). after S cs .medium) f ∙ s .left ∙ ap (λ (S : State). after S cs .medium ++ rest) (sym e);
+        table = ap (λ (S : State). after S cs .table) f ∙ s .table ∙ ap (λ (S : State). after S cs .table) (sym e);
       }
 
   long-enough : (m : List ℕ) (n : ℕ) → ltb (length m) n ≡ false → ltb (length (m ++ rest)) n ≡ ltb (length m) n
@@ -130,10 +133,10 @@ module _ (rest : List ℕ) where
         let r = asked t m tenant id false e in
         one-call (rw (r, a .0, a .1, b .0, b .1)) (ap (state t) (rw (r, a .0, a .1, b .0, b .1) (burned _ m _ i)))
 
-  look-up : (t : Table) (m : List ℕ) {cs : List Call} (tenant id : ℕ) (x : Reply) → short t m ≡ false → Looks t id x m → Looks t id x (m ++ rest)
-      → Alike t m cs → Alike t m (lookup tenant id ∷ cs)
-  unfolding reply next lookupReply lookupRows
-  look-up t m tenant id x e a b = one-call (rw (asked t m tenant id false e, a, b)) refl refl
+    look-up : (tenant id : ℕ) (x : Reply) → short t m ≡ false → Looks t id x m → Looks t id x (m ++ rest)
+        → next (state t m) (lookup tenant id) ≡ state u w → Alike u w cs → Alike t m (lookup tenant id ∷ cs)
+    unfolding reply next lookupReply lookupTable lookupRows
+    look-up tenant id x e a b = let r = asked t m tenant id false e in one-call (rw (r, a, b)) (rw (r, a, b))
 
 -- the tables and the media of the example over 36 words, each by the number of calls before it
 abbrev T0 : Table
@@ -151,11 +154,20 @@ T3 = withServer T2 2
 abbrev T4 : Table
 T4 = withEntry T3 2
 
+abbrev T5 : Table
+T5 = withOpened T4 4 1
+
 abbrev T6 : Table
-T6 = withWeight T4 0 2
+T6 = withWeight T5 0 2
 
 abbrev T7 : Table
 T7 = withEntry T6 0
+
+abbrev T8 : Table
+T8 = withOpened T7 4 2
+
+abbrev T10 : Table
+T10 = withOpened T8 4 2
 
 abbrev M0 : List ℕ
 M0 = replicate 36 blank
@@ -174,25 +186,27 @@ record Over36 : Type 0 where
   accepted : firstOf (startRows 4 0) ≡ 0
   said : replies (begin 4 0 36) calls ≡ expected
   left : after (begin 4 0 36) calls .medium ≡ M9
+  counted : after (begin 4 0 36) calls .table .counters ≡ counters
   longer : (rest : List ℕ) → Alike rest T0 M0 calls
 
 over-36 : Over36
-unfolding calls expected below allBelow highest orZero upward countBelow total setBelow stepOf nonzero seedOf xorLeft xorRight roundOf drawOf exceeds atLeast raise shareOf writeP takes pick writeServer readable serverAt entryAt bearsAt live blankRun burnAll marksOn marksOver invalidations inRange readSound serverSound sound withServer withWeight oneMore withEntry firstOf settle replyBy lastLive opening searchBelow searchFor startRows startTable addServerRows addServerReply addServerTable reweightRows reweightReply reweightTable short readyRows askedRows tenantOf outOfRange ofAnother target entryRows writeRows writeMarks writeBurns writeReply writeTable writeMedium isMet deleteRows deleteMarks deleteReply deleteMedium lookupRows metReply lookupReply reply next after replies begin
+unfolding calls expected counters below allBelow highest orZero upward countBelow total setBelow stepOf nonzero seedOf xorLeft xorRight roundOf drawOf exceeds atLeast raise shareOf writeP takes pick writeServer readable serverAt entryAt bearsAt live blankRun burnAll marksOn marksOver invalidations inRange readSound serverSound sound inBounds grown counted withServer withWeight oneMore withEntry withOpened firstOf settle replyBy lastLive opening searchBelow searchFor startRows startTable addServerRows addServerReply addServerTable reweightRows reweightReply reweightTable short readyRows askedRows tenantOf outOfRange ofAnother target entryRows writeRows writeMarks writeBurns writeReply writeTable writeMedium isMet deleteRows deleteMarks deleteReply deleteMedium lookupRows metReply lookupReply lookupTable reply next after replies begin
 over-36 = record {
   accepted = refl;
   said = refl;
   left = refl;
+  counted = refl;
   longer = λ rest.
       add-server rest T0 M0 T1 M0 1 refl refl refl refl
       (add-server rest T1 M0 T2 M0 0 refl refl refl refl
       (add-server rest T2 M0 T3 M0 2 refl refl refl refl
       (write-one rest T3 M0 T4 M4 4 626627286 500 [] refl (refl, refl) (refl, refl) refl refl
-      (look-up rest T4 M4 4 626627286 (found 500 1) refl refl refl
-      (re-weight rest T4 M4 T6 M4 0 2 refl
+      (look-up rest T4 M4 T5 M4 4 626627286 (found 500 1) refl refl refl refl
+      (re-weight rest T5 M4 T6 M4 0 2 refl
       (write-one rest T6 M4 T7 M7 4 626627286 740 (26 ∷ []) refl (refl, refl) (refl, refl) refl refl
-      (look-up rest T7 M7 4 626627286 (found 740 2) refl refl refl
-      (delete-one rest T7 M7 T7 M9 4 626627286 (2 ∷ []) refl (refl, refl) (refl, refl) refl refl
-      (look-up rest T7 M9 4 626627286 (refused 8 2) refl refl refl
+      (look-up rest T7 M7 T8 M7 4 626627286 (found 740 2) refl refl refl refl
+      (delete-one rest T8 M7 T8 M9 4 626627286 (2 ∷ []) refl (refl, refl) (refl, refl) refl refl
+      (look-up rest T8 M9 T10 M9 4 626627286 (refused 8 2) refl refl refl refl
       (no-calls rest))))))))));
 }
 
@@ -214,6 +228,7 @@ example n h =
     record {
       machine = machine;
       ledger = sym (demand3 4 0 n (over-36 .accepted) calls .alike) ∙ ap (map compared) machine;
+      counted = ap (λ (S : State). after S calls .table .counters) e ∙ ap (λ (t : Table). t .counters) (a .table) ∙ over-36 .counted;
       word24 = ap (λ (m : List ℕ). nth m 24) left;
       word25 = ap (λ (m : List ℕ). nth m 25) left;
       word26 = ap (λ (m : List ℕ). nth m 26) left;

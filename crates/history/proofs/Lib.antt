@@ -20,3 +20,4 @@ pub mod Theorem
 pub mod LiveRule
 pub mod Numbers
 pub mod Example
+pub mod Counters

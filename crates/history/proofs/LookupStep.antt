@@ -23,7 +23,7 @@ use Rattle.replies.specs.Reply.{refused, replyBy}
 use Rattle.replies.proofs.Refusals.{settle-yes}
 use Rattle.search.specs.Search.{Place, searchFor}
 use Rattle.checks.specs.Ready.{short, readyRows, askedRows}
-use Rattle.lookup.specs.Lookup.{lookupRows, metReply, lookupReply}
+use Rattle.lookup.specs.Lookup.{lookupRows, metReply, lookupReply, lookupTable}
 use Rattle.search.specs.Opened.{lowest, opens}
 use Rattle.search.proofs.Searches.{opened-are}
 use Rattle.lookup.proofs.Passed.{lookup-asked}
@@ -31,7 +31,7 @@ use Rattle.history.specs.Call.{lookup, compared}
 use Rattle.history.specs.Ledger.{Ledger, Version, usedBy, lastWriteOf, lookupRowsL, openedFrom, lastWriteReply, rowsOf, doneOf, enter, readsL}
 use Rattle.history.proofs.Events.{placeOf, last-came, came-placed, none-placed}
 use Rattle.history.proofs.Holds.{InEntry}
-use Rattle.history.proofs.Agree.{Agree, Step, settled, same-asked, same-reads, same-met}
+use Rattle.history.proofs.Agree.{Agree, agree-opened, Step, settled, same-asked, same-reads, same-met}
 
 module _ {t : Table} {m : List ℕ} {L : Ledger} (A : Agree t m L) (id : ℕ) where
   pub same-rows : (tenant : ℕ) → firstOf (lookupRows t m tenant id) ≡ firstOf (lookupRowsL L tenant id)
@@ -70,11 +70,11 @@ module _ {t : Table} {m : List ℕ} {L : Ledger} (A : Agree t m L) (id : ℕ) wh
           let content : contentOf (valueWord (x .value)) ≡ x .value = omega (arith, w .valueSmall) in
           rw (came-placed (L .events) id x e, w .valueThere, tag, content)
 
-  pub lookup-step : (tenant : ℕ) → Step (lookupReply t m tenant id) t m (enter L (lookup tenant id))
-  unfolding lookupReply enter rowsOf doneOf
-  lookup-step tenant = settled L (lookupRows t m tenant id) (lookupRowsL L tenant id) (same-rows tenant) _ _ t m
-      (λ z. record { alike = same-reply (lookup-asked t m tenant id z .small); agrees = A })
-      (λ f. A)
+  pub lookup-step : (tenant : ℕ) → Step (lookupReply t m tenant id) (lookupTable t m tenant id) m (enter L (lookup tenant id))
+  unfolding lookupReply lookupTable enter rowsOf doneOf
+  lookup-step tenant = settled L (lookupRows t m tenant id) (lookupRowsL L tenant id) (same-rows tenant) _ _ (lookupTable t m tenant id) m
+      (λ z. record { alike = same-reply (lookup-asked t m tenant id z .small); agrees = agree-opened A tenant _ })
+      (λ f. agree-opened A tenant _)
 
   -- a lookup of an id in range by its own tenant, once a server is there
   abbrev own : List Row

@@ -14,17 +14,19 @@ use Rattle.lists.specs.Below.{nth}
 use Rattle.lists.proofs.Tests.{and-l, and-r}
 use Rattle.table.specs.declared.Table.{Table}
 use Rattle.table.specs.Parts.{weightOf, usedOf}
-use Rattle.upkeep.specs.Upkeep.{withServer, withWeight, oneMore, withEntry}
+use Rattle.upkeep.specs.Upkeep.{withServer, withWeight, oneMore, withEntry, withOpened}
 use Rattle.upkeep.proofs.Upkeep.{withServer-is}
 use Rattle.replies.specs.Refusal.{firstOf}
 use Rattle.replies.specs.declared.Reply.{Reply}
 use Rattle.replies.proofs.Refusals.{settle-yes, settle-either}
 use Rattle.replies.proofs.Answers.{reply-done, reply-number}
+use Rattle.lookup.specs.Lookup.{lookupTable}
 use Rattle.planning.specs.WriteRows.{target, writeRows}
 use Rattle.writing.specs.Writing.{writeTable}
 use Rattle.server_rows.specs.ServerRows.{startRows, addServerRows, reweightRows}
 use Rattle.server_rows.proofs.Accepted.{addServer-accepted}
 use Rattle.servers.specs.Servers.{addServerReply, addServerTable, reweightTable}
+use Rattle.batch.specs.Batch.{batchTable}
 use Rattle.history.specs.Call.{Call, addServer, reweight, write, delete, lookup, batch}
 use Rattle.history.specs.Machine.{State, reply, next, after, begin}
 use Rattle.history.specs.Ledger.{freshLedger}
@@ -82,13 +84,17 @@ module _ (t : Table) (k : ℕ) (l : k < t .count) where
     weight = λ _. refl;
   }
 
+  servers-opened : (tenant opened : ℕ) → Has (Unit {0}) (withOpened t tenant opened)
+  unfolding withOpened
+  servers-opened tenant opened = record { there = l; capacity = refl; salt = refl; used = omega arith; weight = λ _. refl }
+
 -- one call, by the table that it leaves
 kept-by : (S : State) (c : Call) (k : ℕ) (l : k < S .table .count) (left : Type 0) → (weightLeft k (c ∷ []) ≡ true → left) → Has (S .table) k l left (next S c .table)
     → SameServer S (next S c) (c ∷ []) k
 kept-by S c k l left f h = record { there = h .there; capacity = h .capacity; salt = h .salt; used = h .used; weight = λ e. h .weight (f e) }
 
 next-same : (S : State) (c : Call) (k : ℕ) → k < S .table .count → SameServer S (next S c) (c ∷ []) k
-unfolding next weightLeft addServerTable reweightTable writeTable
+unfolding next weightLeft addServerTable reweightTable writeTable lookupTable batchTable
 next-same S (addServer weight) k l = kept-by S (addServer weight) k l (Unit {0}) (λ _. tt)
     (settle-either (addServerRows (S .table) (S .medium) weight) _ (S .table) (Has (S .table) k l (Unit {0}))
     (λ _. server-added (S .table) k l weight) (itself (S .table) k l (Unit {0})))
@@ -100,8 +106,8 @@ next-same S (write tenant id value) k l = kept-by S (write tenant id value) k l 
     (settle-either (writeRows (S .table) (S .medium) tenant id value) _ (S .table) (Has (S .table) k l (Unit {0}))
     (λ _. entry-added (S .table) k l (target (S .table) id)) (itself (S .table) k l (Unit {0})))
 next-same S (delete tenant id) k l = kept-by S (delete tenant id) k l (Unit {0}) (λ _. tt) (itself (S .table) k l (Unit {0}))
-next-same S (lookup tenant id) k l = kept-by S (lookup tenant id) k l (Unit {0}) (λ _. tt) (itself (S .table) k l (Unit {0}))
-next-same S (batch tenant ids) k l = kept-by S (batch tenant ids) k l (Unit {0}) (λ _. tt) (itself (S .table) k l (Unit {0}))
+next-same S (lookup tenant id) k l = kept-by S (lookup tenant id) k l (Unit {0}) (λ _. tt) (servers-opened (S .table) k l tenant _)
+next-same S (batch tenant ids) k l = kept-by S (batch tenant ids) k l (Unit {0}) (λ _. tt) (servers-opened (S .table) k l tenant _)
 
 left-both : (k : ℕ) (c : Call) (calls : List Call) → weightLeft k (c ∷ calls) ≡ true → (weightLeft k (c ∷ []) ≡ true) × (weightLeft k calls ≡ true)
 unfolding weightLeft

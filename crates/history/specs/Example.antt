@@ -1,4 +1,5 @@
--- Document 01's worked example, its calls by the tenant of its id: the ledger's replies, the archive's, and words 24 to 26.
+-- Document 01's worked example, its calls by the tenant of its id: the ledger's replies, the archive's, the counters, and words 24
+-- to 26.
 use Prim.Native.Nat.{ℕ}
 use mathlib.Core.Path.{_≡_}
 use mathlib.Core.List.{List, [], _∷_, map}
@@ -38,11 +39,16 @@ expected =
     ∷ refused 8 2
     ∷ []
 
+-- tenant 4's lookups opened one server, two, and two before the refusal
+unfoldable pub counters : List ℕ
+counters = 0 ∷ 0 ∷ 0 ∷ 0 ∷ 5 ∷ 0 ∷ 0 ∷ 0 ∷ []
+
 -- a table of 4 entries a server and salt 0 over n blank words; proofs/Example shows it for every n of 36 or more, the words of
 -- three servers
 pub record Example (n : ℕ) : Type 0 where
   pub machine : replies (begin 4 0 n) calls ≡ expected
   pub ledger : ledgerReplies (freshLedger 4 0 n) calls ≡ map compared expected
+  pub counted : after (begin 4 0 n) calls .table .counters ≡ counters
   pub word24 : nth (after (begin 4 0 n) calls .medium) 24 ≡ 626627286
   pub word25 : nth (after (begin 4 0 n) calls .medium) 25 ≡ 1073742324
   pub word26 : nth (after (begin 4 0 n) calls .medium) 26 ≡ 2147483649

@@ -12,12 +12,12 @@ use Rattle.table.specs.declared.Table.{Table}
 use Rattle.table.specs.Parts.{usedOf}
 use Rattle.replies.specs.declared.Reply.{Reply}
 use Rattle.replies.specs.Reply.{refused}
-use Rattle.lookup.specs.Lookup.{lookupReply}
+use Rattle.lookup.specs.Lookup.{lookupReply, lookupTable}
 use Rattle.deletion.specs.Deletion.{deleteReply, deleteMedium}
 use Rattle.writing.specs.Writing.{writeReply, writeTable, writeMedium}
 use Rattle.servers.specs.Servers.{startTable, addServerReply, addServerTable, reweightReply, reweightTable}
 use Rattle.batch_answer.specs.declared.Batch.{Batch}
-use Rattle.batch.specs.Batch.{batchReply}
+use Rattle.batch.specs.Batch.{batchReply, batchTable}
 use Rattle.history.specs.Call.{Call, addServer, reweight, write, delete, lookup, batch}
 
 pub record State : Type 0 where
@@ -57,8 +57,8 @@ next S (write tenant id value) = record {
   medium = writeMedium (S .table) (S .medium) tenant id value;
 }
 next S (delete tenant id) = record { table = S .table; medium = deleteMedium (S .table) (S .medium) tenant id }
-next S (lookup tenant id) = S
-next S (batch tenant ids) = S
+next S (lookup tenant id) = record { table = lookupTable (S .table) (S .medium) tenant id; medium = S .medium }
+next S (batch tenant ids) = record { table = batchTable (S .table) (S .medium) tenant ids; medium = S .medium }
 
 unfoldable pub after : State → List Call → State
 after S [] = S
@@ -68,9 +68,12 @@ unfoldable pub replies : State → List Call → List Reply
 replies S [] = []
 replies S (c ∷ cs) = reply S c ∷ replies (next S c) cs
 
--- a started table over n blank words
+-- a started table over a lent medium, and over n blank words
+abbrev pub startState : ℕ → ℕ → List ℕ → State
+startState capacity salt m = record { table = startTable capacity salt; medium = m }
+
 unfoldable pub begin : ℕ → ℕ → ℕ → State
-begin capacity salt n = record { table = startTable capacity salt; medium = replicate n blank }
+begin capacity salt n = startState capacity salt (replicate n blank)
 
 -- the id word of entry j of server k, and whether the entry is live for it: it can be live for no other id
 abbrev pub idAt : State → ℕ → ℕ → ℕ

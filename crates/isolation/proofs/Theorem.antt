@@ -17,6 +17,7 @@ use Rattle.isolation.specs.Isolation.{Isolation}
 use Rattle.isolation.proofs.View.{trimmed, view, nextOf, restOf, foretold}
 use Rattle.isolation.proofs.Entering.{Verdict, viewed, unseen, seen-enters}
 use Rattle.isolation.proofs.Hearing.{seen-heard}
+use Rattle.isolation.proofs.Counting.{counter-heard}
 
 module _ (tenant : ℕ) where
   none-seen : (K : Ledger) (oks : List Bool) → [] ≡ foretold K [] oks
@@ -50,11 +51,18 @@ module _ (tenant : ℕ) where
   unfolding trimmed freshLedger
   same-fresh capacity salt n n′ = refl
 
+  -- what it hears of one history is what it hears of the other
+  hears-same : (capacity salt n n′ : ℕ) → firstOf (startRows capacity salt) ≡ 0 → (calls calls′ : List Call) → seen tenant calls ≡ seen tenant calls′
+      → verdicts tenant (begin capacity salt n) calls ≡ verdicts tenant (begin capacity salt n′) calls′
+      → heard tenant (begin capacity salt n) calls ≡ heard tenant (begin capacity salt n′) calls′
+  hears-same capacity salt n n′ z calls calls′ s v =
+      foretells calls (begin capacity salt n) (freshLedger capacity salt n) (begin-agrees capacity salt n z) (begin-rules capacity salt n)
+      ∙ ap₂ (foretold (view tenant (freshLedger capacity salt n))) s v
+      ∙ ap (λ (K : Ledger). foretold K (seen tenant calls′) (verdicts tenant (begin capacity salt n′) calls′)) (same-fresh capacity salt n n′)
+      ∙ sym (foretells calls′ (begin capacity salt n′) (freshLedger capacity salt n′) (begin-agrees capacity salt n′ z) (begin-rules capacity salt n′))
+
 pub isolation : (tenant capacity salt n n′ : ℕ) → firstOf (startRows capacity salt) ≡ 0 → (calls calls′ : List Call) → Isolation tenant capacity salt n n′ calls calls′
 isolation tenant capacity salt n n′ z calls calls′ = record {
-  same = λ s v.
-      foretells tenant calls (begin capacity salt n) (freshLedger capacity salt n) (begin-agrees capacity salt n z) (begin-rules capacity salt n)
-      ∙ ap₂ (foretold (view tenant (freshLedger capacity salt n))) s v
-      ∙ ap (λ (K : Ledger). foretold K (seen tenant calls′) (verdicts tenant (begin capacity salt n′) calls′)) (same-fresh tenant capacity salt n n′)
-      ∙ sym (foretells tenant calls′ (begin capacity salt n′) (freshLedger capacity salt n′) (begin-agrees capacity salt n′ z) (begin-rules capacity salt n′));
+  same = hears-same tenant capacity salt n n′ z calls calls′;
+  counter = λ l s v. counter-heard tenant l capacity salt n n′ calls calls′ (hears-same tenant capacity salt n n′ z calls calls′ s v);
 }

@@ -1,9 +1,12 @@
--- Neighbours are invisible (document 02, item 2): over two histories a tenant, the paper's club, gets the same.
-use Prim.Native.Nat.{ℕ}
+-- Neighbours are invisible (document 02, items 2 and 5): over two histories a tenant, the paper's club, gets the same, and its counter
+-- is the same.
+use Prim.Native.Nat.{ℕ, _<_}
 use mathlib.Core.Path.{_≡_}
 use mathlib.Core.List.{List}
+use Rattle.limits.specs.Limits.{tenants}
+use Rattle.table.specs.Parts.{openedOf}
 use Rattle.history.specs.Call.{Call}
-use Rattle.history.specs.Machine.{begin}
+use Rattle.history.specs.Machine.{after, begin}
 use Rattle.isolation.specs.Seen.{seen, verdicts, heard}
 
 -- "In two histories on blank discs with the same start": two lists of calls on fresh tables of the same capacity, over n and over
@@ -18,3 +21,6 @@ pub record Isolation (tenant capacity salt n n′ : ℕ) (calls calls′ : List 
   pub same : seen tenant calls ≡ seen tenant calls′
       → verdicts tenant (begin capacity salt n) calls ≡ verdicts tenant (begin capacity salt n′) calls′
       → heard tenant (begin capacity salt n) calls ≡ heard tenant (begin capacity salt n′) calls′
+  pub counter : tenant < tenants → seen tenant calls ≡ seen tenant calls′
+      → verdicts tenant (begin capacity salt n) calls ≡ verdicts tenant (begin capacity salt n′) calls′
+      → openedOf (after (begin capacity salt n) calls .table) tenant ≡ openedOf (after (begin capacity salt n′) calls′ .table) tenant

@@ -21,10 +21,14 @@ maxIds = 256
 abbrev pub contentRange : ℕ
 contentRange = 1073741824
 
--- tenants: their numbers are below it
+-- tenants: their numbers are below it, and a table has a counter for each
 abbrev pub tenants : ℕ
 tenants = 8
 
 -- 2^27, the ids of each tenant
 abbrev pub tenantRange : ℕ
 tenantRange = 134217728
+
+-- 2^30 - 1, where a counter of opened servers stops
+abbrev pub maxCounter : ℕ
+maxCounter = 1073741823

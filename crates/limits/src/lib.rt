@@ -15,11 +15,17 @@ pub const MAX_IDS: usize = 256;
 // 2^30: ids, values and salts are below it, and so is the content of a word, which has 30 bits.
 pub const CONTENT_RANGE: u32 = 1073741824;
 
-// Tenants: their numbers are below it.
-pub const TENANTS: u32 = 8;
+// Tenants: their numbers are below it, and a table has a counter for each.
+pub const TENANTS: usize = 8;
 
 // 2^27, the ids of each tenant.
 pub const TENANT_RANGE: u32 = 134217728;
 
+// 2^30 - 1, where a counter of opened servers stops.
+pub const MAX_COUNTER: u32 = 1073741823;
+
 // A column of a table: it has a number for each server that there may be.
 pub type Column = [u32; MAX_SERVERS];
+
+// The counters of opened servers, one for each tenant.
+pub type Counters = [u32; TENANTS];

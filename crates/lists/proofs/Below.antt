@@ -76,6 +76,20 @@ unfolding total
 total-mono f g zero h = omega arith
 total-mono f g (suc n) h = omega (arith, total-mono f g n (λ k l. h k (omega arith)), h n (omega arith))
 
+-- nothing comes after n
+pub total-rest : (f : ℕ → ℕ) (n m : ℕ) → n ≤ m → ((k : ℕ) → n ≤ k → f k ≡ 0) → total f m ≡ total f n
+unfolding total
+total-rest f n zero l h = let e : n ≡ 0 = omega arith in rw e
+total-rest f n (suc m) l h = byBool (eqb n (suc m))
+    (λ d. rw (eqb-true n (suc m) d))
+    (λ d. let b : n ≤ m = omega (arith, eqb-false n (suc m) d) in omega (arith, total-rest f n m b h, h m b))
+
+-- the sum by its first number
+pub total-first : (f : ℕ → ℕ) (n : ℕ) → total f (suc n) ≡ f 0 + total (λ k. f (suc k)) n
+unfolding total
+total-first f zero = omega arith
+total-first f (suc n) = omega (arith, total-first f n)
+
 -- one number more, as a loop counts
 pub total-more : (f : ℕ → ℕ) (n : ℕ) → total f (n + 1) ≡ total f n + f n
 unfolding total

@@ -1,3 +1,3 @@
 pub mod Tests
 pub mod Below
-mod Arrays
+pub mod Arrays

@@ -12,7 +12,7 @@ use limits::MAX_SERVERS;
 pub fn array_at(words: &[u32], from: usize, n: usize) -> Column
     requires { ⌜ n ≤ maxServers ⌝ }
     requires { ⌜ from + n ≤ length (now words) ⌝ }
-    ensures { λ r. ⌜ r ≡ arrayAt (now (words .entry)) from n ⌝ }
+    ensures { λ r. ⌜ r ≡ arrayAt maxServers (now (words .entry)) from n ⌝ }
 {
     let mut array: Column = [0; MAX_SERVERS];
     let mut i: usize = 0;

@@ -3,3 +3,4 @@ mod Looked
 pub mod OpenedByValues
 pub mod ServerZero
 pub mod Plain
+pub mod Counting

@@ -1,4 +1,5 @@
--- Lookup (document 01, "The calls" and its table of refusals; document 02, item 2): its rows of refusals in the order of the tests, and its reply.
+-- Lookup (document 01, "The calls" and its table of refusals; document 02, items 2 and 5): its rows of refusals in the order of the
+-- tests, its reply, and the table that it leaves.
 -- t is the table and m the medium as lent.
 use Prim.Native.Nat.{ℕ}
 use mathlib.Core.Bool.{false, cond}
@@ -10,6 +11,7 @@ use Rattle.lists.specs.Below.{nth}
 use Rattle.medium.specs.Word.{tagOf, contentOf}
 use Rattle.medium.specs.Entry.{valueAt}
 use Rattle.table.specs.declared.Table.{Table}
+use Rattle.upkeep.specs.Upkeep.{withOpened}
 use Rattle.replies.specs.Refusal.{Row}
 use Rattle.replies.specs.declared.Reply.{Reply}
 use Rattle.replies.specs.Reply.{refused, found, replyBy}
@@ -31,3 +33,8 @@ unfoldable pub lookupReply : Table → List ℕ → ℕ → ℕ → Reply
 lookupReply t m tenant id =
     let s = searchFor t m id in
     replyBy (lookupRows t m tenant id) (metReply (t .capacity) m (length (s .opened)) (s .met))
+
+-- the caller's counter takes the servers that were opened, whether the lookup is accepted or refused; one that is refused before its
+-- search has opened none
+unfoldable pub lookupTable : Table → List ℕ → ℕ → ℕ → Table
+lookupTable t m tenant id = withOpened t tenant (lookupReply t m tenant id .opened)

@@ -1,4 +1,4 @@
-// Lookup: the value of an id, or why there is none, and how many servers were opened.
+// Lookup: the value of an id, or why there is none, and how many servers were opened, which the table counts for the tenant.
 ghost use mathlib.Core.Path.{_≡_};
 ghost use mathlib.Core.Bool.{true};
 ghost use mathlib.Core.Option.{some};
@@ -7,7 +7,7 @@ ghost use Rattle.draws.specs.Draw.{areSteps};
 ghost use Rattle.medium.specs.Entry.{Inside};
 ghost use Rattle.table.specs.Parts.{tableOf, Whole};
 ghost use Rattle.replies.specs.Reply.{replyOfLookup};
-ghost use Rattle.lookup.specs.Lookup.{metReply, lookupReply};
+ghost use Rattle.lookup.specs.Lookup.{metReply, lookupReply, lookupTable};
 use limits::CONTENT_RANGE;
 use replies::Check;
 use replies::LookupAnswer;
@@ -16,6 +16,12 @@ use search::SearchAnswer;
 use table::Columns;
 use table::Shape;
 use table::Table;
+
+// The answer of lookup, and the table after it.
+pub struct LookedUp {
+    pub answer: LookupAnswer,
+    pub table: Table,
+}
 
 // The answer for the entry that a lookup meets: its value, or a refusal where its value word has another tag.
 pub fn met(
@@ -37,7 +43,7 @@ pub fn met(
     }
 }
 
-// Looks an id up for a tenant on a table whose columns are borrowed.
+// Looks an id up for a tenant on a table whose columns are borrowed. The caller counts the servers that were opened.
 pub fn lookup_in<'a>(
     shape: Shape,
     columns: Columns<'a>,
@@ -63,8 +69,9 @@ pub fn lookup_in<'a>(
 }
 
 // Looks an id up for a tenant on a table by value.
-pub fn lookup(table: Table, medium: &[u32], tenant: u32, id: u32) -> LookupAnswer
-    ensures { λ r. ⌜ replyOfLookup r ≡ lookupReply table (now (medium .entry)) tenant id ⌝ }
+pub fn lookup(table: Table, medium: &[u32], tenant: u32, id: u32) -> LookedUp
+    ensures reply { λ r. ⌜ replyOfLookup (r .answer) ≡ lookupReply table (now (medium .entry)) tenant id ⌝ }
+    ensures table { λ r. ⌜ r .table ≡ lookupTable table (now (medium .entry)) tenant id ⌝ }
 {
     let shape = Shape {
         capacity: table.capacity,
@@ -77,6 +84,13 @@ pub fn lookup(table: Table, medium: &[u32], tenant: u32, id: u32) -> LookupAnswe
         &table.used,
         &table.numerators,
         &table.denominators,
+        &table.counters,
     ];
-    lookup_in(shape, columns, &steps, medium, tenant, id)
+    let answer = lookup_in(shape, columns, &steps, medium, tenant, id);
+    let reply = replies::lookup_reply(answer);
+    let next = upkeep::with_opened(table, tenant, reply.opened);
+    LookedUp {
+        answer,
+        table: next,
+    }
 }

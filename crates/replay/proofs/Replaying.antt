@@ -17,7 +17,7 @@ use Rattle.medium.specs.Word.{blank}
 use Rattle.table.specs.declared.Table.{Table}
 use Rattle.table.proofs.Soundness.{Arrays}
 use Rattle.table_words.specs.Words.{tableLength, tableFrom, withTable}
-use Rattle.table_words.proofs.Lent.{stored-lent}
+use Rattle.table_words.proofs.Lent.{lent-arrays, stored-lent}
 use Rattle.replies.specs.Refusal.{firstOf}
 use Rattle.replies.specs.declared.Reply.{Reply}
 use Rattle.replies.proofs.Refusals.{settle-yes, settle-no}
@@ -25,7 +25,7 @@ use Rattle.server_rows.specs.ServerRows.{startRows}
 use Rattle.servers.specs.Servers.{startTable}
 use Rattle.servers.proofs.Starts.{start-arrays}
 use Rattle.history.specs.Call.{Call, compared}
-use Rattle.history.specs.Machine.{State, after, begin}
+use Rattle.history.specs.Machine.{State, after, begin, startState}
 use Rattle.history.specs.Ledger.{freshLedger, ledgerAfter}
 use Rattle.history.proofs.Unaltered.{after-append}
 use Rattle.history.proofs.Run.{begin-agrees, step, run}
@@ -34,8 +34,8 @@ use Rattle.dispatch.specs.ByNumber.{callOf, callAt, replyTo, nextBy}
 use Rattle.encoding.proofs.Storing.{Stored, length-withReply, stored-here, stored-below}
 use Rattle.call_words.specs.CallWords.{lent}
 use Rattle.call_words.proofs.Columns.{stored-same}
-use Rattle.call_words.proofs.Kept.{lent-arrays, call-arrays, length-stored, stored-again, lent-next}
-use Rattle.replay.specs.Replay.{appended, callsBelow, ledgerReplyTo, withReplies, runs, startState, replyAt, ledgerReplyAt, LedgerWords}
+use Rattle.call_words.proofs.Kept.{call-arrays, length-stored, stored-again, lent-next}
+use Rattle.replay.specs.Replay.{appended, callsBelow, ledgerReplyTo, withReplies, runs, replyAt, ledgerReplyAt, LedgerWords}
 
 -- one call more
 appended-after : (S : State) (calls : List Call) (o : Option Call) → after S (appended calls o) ≡ nextBy (after S calls) o

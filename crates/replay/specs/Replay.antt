@@ -9,7 +9,6 @@ use Rattle.medium.specs.Word.{blank}
 use Rattle.replies.specs.Refusal.{settle}
 use Rattle.replies.specs.declared.Reply.{Reply}
 use Rattle.server_rows.specs.ServerRows.{startRows}
-use Rattle.servers.specs.Servers.{startTable}
 use Rattle.history.specs.Call.{Call, Compared}
 use Rattle.history.specs.Machine.{State, after}
 use Rattle.history.specs.Ledger.{Ledger, freshLedger, told, enter, ledgerAfter}
@@ -43,10 +42,6 @@ replyAt S calls i = replyTo (after S (callsBelow calls i)) (callAt calls i)
 -- how many calls are run on a started table: none where start refuses the capacity or the salt
 unfoldable pub runs : ℕ → ℕ → List ℕ → List ℕ → ℕ
 runs capacity salt calls replies = settle (startRows capacity salt) (roomFor (length calls) (length replies)) 0
-
--- a started table over a lent medium
-abbrev pub startState : ℕ → ℕ → List ℕ → State
-startState capacity salt m = record { table = startTable capacity salt; medium = m }
 
 -- the ledger's reply to call i
 unfoldable pub ledgerReplyAt : ℕ → ℕ → ℕ → List ℕ → ℕ → Compared

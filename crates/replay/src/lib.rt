@@ -6,10 +6,10 @@ ghost use Prim.Native.Nat.{_≤_, _*_};
 ghost use lib.ListN.{length};
 ghost use Rattle.draws.specs.Draw.{areSteps};
 ghost use Rattle.table_words.specs.Words.{tableLength, withTable};
-ghost use Rattle.history.specs.Machine.{after};
+ghost use Rattle.history.specs.Machine.{after, startState};
 ghost use Rattle.encoding.specs.Encoding.{callLength, replyLength};
 ghost use Rattle.call_words.specs.CallWords.{lent};
-ghost use Rattle.replay.specs.Replay.{callsBelow, withReplies, runs, startState, replyAt, LedgerWords};
+ghost use Rattle.replay.specs.Replay.{callsBelow, withReplies, runs, replyAt, LedgerWords};
 ghost use Rattle.replay.specs.Lent.{resumes};
 use encoding::AMOUNT_OFFSET;
 use encoding::CALL_LENGTH;
@@ -89,7 +89,7 @@ pub fn replay(
     n
 }
 
-// Runs encoded calls on a table lent as 1,027 words, and stores the table back. Where there are fewer words, it runs none.
+// Runs encoded calls on a table lent as 1,035 words, and stores the table back. Where there are fewer words, it runs none.
 pub fn resume(table: &mut [u32], calls: &[u32], medium: &mut [u32], replies: &mut [u32]) -> usize
     ensures number { λ r. ⌜ r ≡ resumes (now (table .entry)) (now (calls .entry)) (now (replies .entry)) ⌝ }
     ensures table { λ r. ⌜ now (table .exit)

@@ -1,7 +1,7 @@
 -- From what the tests of a call say to its reply, table and medium, on plain values.
 -- Assumes nothing.
 use Prim.Native.Nat.{ℕ}
-use mathlib.Core.Path.{_≡_, sym, ap, _∙_}
+use mathlib.Core.Path.{_≡_, refl, sym, ap, _∙_}
 use mathlib.Core.List.{List}
 use native.Mathlib.Omega.{arith}
 use lib.Dec.{eqb}
@@ -14,7 +14,7 @@ use Rattle.replies.specs.declared.Reply.{Reply}
 use Rattle.replies.specs.declared.Check.{Check}
 use Rattle.replies.specs.declared.Check.the-variants as check
 use Rattle.replies.specs.Reply.{refused, accepted, replyBy, numberOf, checkNumber, replyOfCheck}
-use Rattle.replies.proofs.Refusals.{settle-yes, settle-no}
+use Rattle.replies.proofs.Refusals.{settle-yes, settle-no, settle-either}
 
 -- no refusal has number 0
 pub number-not-zero : (r : Refusal) → numberOf r ≡ 0 → ⊥
@@ -70,3 +70,8 @@ check-reply rows (check.Refused r) e = reply-refused rows r e accepted
 pub reply-number : (rows : List Row) (done : Reply) → done .refusal ≡ 0 → replyBy rows done .refusal ≡ firstOf rows
 unfolding replyBy settle
 reply-number rows done z = byBool (eqb (firstOf rows) 0) (λ e. rw e (z ∙ sym (eqb-true (firstOf rows) 0 e))) (λ e. rw e)
+
+-- a reply that carries no opened count carries none where its rows refuse either
+pub reply-unopened : (rows : List Row) (done : Reply) → done .opened ≡ 0 → replyBy rows done .opened ≡ 0
+unfolding replyBy
+reply-unopened rows done z = settle-either rows done _ (λ (r : Reply). r .opened ≡ 0) (λ _. z) refl

@@ -66,7 +66,7 @@ length-downward p (suc n) = byBool (p n)
 module _ (t : Table) (m : List ℕ) (id : ℕ) where
   -- t with its first n servers alone
   abbrev first : ℕ → Table
-  first n = tableBy (record { capacity = t .capacity; salt = t .salt; count = n }) (t .weights) (t .used) (t .numerators) (t .denominators)
+  first n = tableBy (record { capacity = t .capacity; salt = t .salt; count = n }) (t .weights) (t .used) (t .numerators) (t .denominators) (t .counters)
 
   -- server k is readable, and not below the server of o
   abbrev from : Option Place → ℕ → Bool

@@ -59,6 +59,7 @@ pub fn add_server(table: Table, medium: &[u32], weight: u32) -> Changed
         &table.used,
         &table.numerators,
         &table.denominators,
+        &table.counters,
     ];
     let check = server_rows::add_server(shape, columns, medium, weight);
     match check {
@@ -92,6 +93,7 @@ pub fn reweight(table: Table, server: usize, weight: u32) -> Changed
         &table.used,
         &table.numerators,
         &table.denominators,
+        &table.counters,
     ];
     let check = server_rows::reweight(shape, columns, server, weight);
     match check {

@@ -5,18 +5,19 @@ use mathlib.Core.List.{List, [], _∷_}
 use lib.ListN.{replicate}
 use Rattle.lists.specs.Below.{allBelow, highest, orZero, upward, countBelow, total, setBelow}
 use Rattle.tenants.specs.Tenant.{tenantOf, outOfRange, ofAnother}
+use Rattle.counters.specs.Counter.{grown, counted, inBounds}
 use Rattle.draws.specs.Draw.{stepOf, nonzero, seedOf, xorLeft, xorRight, roundOf, drawOf}
 use Rattle.placement.specs.Fraction.{exceeds, atLeast, raise}
 use Rattle.placement.specs.Rule.{shareOf, writeP, takes, pick, writeServer, readable}
 use Rattle.medium.specs.Entry.{serverAt, entryAt, bearsAt, live, blankRun}
 use Rattle.medium.specs.Burn.{burnAll, marksOn, marksOver, invalidations}
 use Rattle.table.specs.Sound.{inRange, readSound, serverSound, sound}
-use Rattle.upkeep.specs.Upkeep.{withServer, withWeight, oneMore, withEntry}
+use Rattle.upkeep.specs.Upkeep.{withServer, withWeight, oneMore, withEntry, withOpened}
 use Rattle.replies.specs.Refusal.{firstOf, settle}
 use Rattle.replies.specs.Reply.{replyBy}
 use Rattle.search.specs.Search.{lastLive, opening, searchBelow, searchFor}
 use Rattle.checks.specs.Ready.{short, readyRows, askedRows}
-use Rattle.lookup.specs.Lookup.{lookupRows, metReply, lookupReply}
+use Rattle.lookup.specs.Lookup.{lookupRows, metReply, lookupReply, lookupTable}
 use Rattle.deletion.specs.Deletion.{isMet, deleteRows, deleteMarks, deleteReply, deleteMedium}
 use Rattle.planning.specs.WriteRows.{target, entryRows, writeRows}
 use Rattle.writing.specs.Writing.{writeMarks, writeBurns, writeReply, writeTable, writeMedium}
@@ -65,5 +66,5 @@ output =
 
 -- the output over as many words as daysheet has
 pub example : outputOf input (replicate 3072 4294967295) .bytes ≡ output
-unfolding input output allBelow highest orZero upward countBelow total setBelow stepOf nonzero seedOf xorLeft xorRight roundOf drawOf exceeds atLeast raise shareOf writeP takes pick writeServer readable serverAt entryAt bearsAt live blankRun burnAll marksOn marksOver invalidations inRange readSound serverSound sound withServer withWeight oneMore withEntry firstOf settle replyBy lastLive opening searchBelow searchFor startRows startReply startTable addServerRows addServerReply addServerTable reweightRows reweightReply reweightTable short readyRows askedRows tenantOf outOfRange ofAnother target entryRows writeRows writeMarks writeBurns writeReply writeTable writeMedium isMet deleteRows deleteMarks deleteReply deleteMedium lookupRows metReply lookupReply reply next callOf replyTo nextBy isDigit digitRun valueOf numberAt spaced letters letterOf numberFor lineBy hasTwo last first lineOf longer linesOf digits decimal printed question answered startRun callRun lineRun run outputOf
+unfolding input output allBelow highest orZero upward countBelow total setBelow stepOf nonzero seedOf xorLeft xorRight roundOf drawOf exceeds atLeast raise shareOf writeP takes pick writeServer readable serverAt entryAt bearsAt live blankRun burnAll marksOn marksOver invalidations inRange readSound serverSound sound inBounds grown counted withServer withWeight oneMore withEntry withOpened firstOf settle replyBy lastLive opening searchBelow searchFor startRows startReply startTable addServerRows addServerReply addServerTable reweightRows reweightReply reweightTable short readyRows askedRows tenantOf outOfRange ofAnother target entryRows writeRows writeMarks writeBurns writeReply writeTable writeMedium isMet deleteRows deleteMarks deleteReply deleteMedium lookupRows metReply lookupReply lookupTable reply next callOf replyTo nextBy isDigit digitRun valueOf numberAt spaced letters letterOf numberFor lineBy hasTwo last first lineOf longer linesOf digits decimal printed question answered startRun callRun lineRun run outputOf
 example = refl

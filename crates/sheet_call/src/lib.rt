@@ -68,6 +68,7 @@ fn run_by_value(
         &table.used,
         &table.numerators,
         &table.denominators,
+        &table.counters,
     ];
     let reply = dispatch::run_in(
         shape,
@@ -81,6 +82,7 @@ fn run_by_value(
     );
     let mut next = table;
     count_in(&mut next.used, number, reply);
+    upkeep::count_opened(&mut next.counters, tenant, reply.opened);
     Ran { reply, table: next }
 }
 

@@ -1,15 +1,17 @@
--- Tables that agree below the count are alike sound.
+-- Tables that agree below the count and have the same counters are alike sound.
 -- Assumes nothing.
 use Prim.Native.Nat.{ℕ, _<_}
-use mathlib.Core.Path.{_≡_, sym}
+use mathlib.Core.Bool.{true}
+use mathlib.Core.Path.{_≡_, sym, ap, _∙_}
 use native.Mathlib.Omega.{arith}
 use Rattle.lists.proofs.Tests.{iff-eq}
+use Rattle.counters.specs.Counter.{inBounds}
 use Rattle.table.specs.declared.Table.{Table}
 use Rattle.table.specs.Parts.{weightOf, usedOf, readP}
 use Rattle.table.specs.Sound.{sound}
 use Rattle.table.proofs.Soundness.{Sound, server-same, sound-facts, facts-sound}
 
--- what is at the count and above may differ
+-- what is at the count and above may differ, and the counters may
 pub record AgreeBelow (t u : Table) : Type 0 where
   pub capacity : t .capacity ≡ u .capacity
   pub salt : t .salt ≡ u .salt
@@ -29,16 +31,17 @@ agree-sym t u g = record {
 }
 
 -- the facts of a sound table are those of every table that agrees with it
-carry : (t u : Table) → AgreeBelow u t → Sound t → Sound u
-carry t u g s = record {
+carry : (t u : Table) → AgreeBelow u t → inBounds (u .counters) ≡ true → Sound t → Sound u
+carry t u g b s = record {
   low = omega arith;
   high = omega arith;
   salted = omega arith;
   few = omega arith;
+  bounds = b;
   server = λ k l. server-same t u k (g .capacity) (λ i m. g .weight i (omega arith)) (g .used k l) (g .read k l) (s .server k (omega arith));
 }
 
-pub agree-sound : (t u : Table) → AgreeBelow t u → sound t ≡ sound u
-agree-sound t u g = iff-eq (sound t) (sound u)
-    (λ e. facts-sound u (carry t u (agree-sym t u g) (sound-facts t e)))
-    (λ e. facts-sound t (carry u t g (sound-facts u e)))
+pub agree-sound : (t u : Table) → AgreeBelow t u → t .counters ≡ u .counters → sound t ≡ sound u
+agree-sound t u g c = iff-eq (sound t) (sound u)
+    (λ e. let s = sound-facts t e in facts-sound u (carry t u (agree-sym t u g) (ap inBounds (sym c) ∙ s .bounds) s))
+    (λ e. let s = sound-facts u e in facts-sound t (carry u t g (ap inBounds c ∙ s .bounds) s))

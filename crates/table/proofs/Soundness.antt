@@ -9,6 +9,7 @@ use borrow.Author.Tests.{leb-true, le-leb, ltb-true, lt-ltb}
 use Rattle.lists.specs.Below.{allBelow}
 use Rattle.lists.proofs.Tests.{byBool, true-not-false, and-l, and-r, and-i}
 use Rattle.lists.proofs.Below.{allBelow-in, allBelow-out}
+use Rattle.counters.specs.Counter.{inBounds}
 use Rattle.placement.specs.declared.Fraction.{Fraction}
 use Rattle.placement.specs.Fraction.{atLeast}
 use Rattle.placement.specs.Rule.{writeP, Bounded}
@@ -23,9 +24,10 @@ pub record Arrays (t : Table) : Type 0 where
   pub used : length (t .used) ≡ 256
   pub numerators : length (t .numerators) ≡ 256
   pub denominators : length (t .denominators) ≡ 256
+  pub counters : length (t .counters) ≡ 8
 
 pub empty-arrays : (capacity salt : ℕ) → Arrays (empty capacity salt)
-empty-arrays capacity salt = record { weights = refl; used = refl; numerators = refl; denominators = refl }
+empty-arrays capacity salt = record { weights = refl; used = refl; numerators = refl; denominators = refl; counters = refl }
 
 pub record SoundServer (t : Table) (k : ℕ) : Type 0 where
   pub light : weightOf t k ≤ t .capacity
@@ -40,6 +42,7 @@ pub record Sound (t : Table) : Type 0 where
   pub high : t .capacity ≤ 65536
   pub salted : t .salt < 1073741824
   pub few : t .count ≤ 256
+  pub bounds : inBounds (t .counters) ≡ true
   pub server : (k : ℕ) → k < t .count → SoundServer t k
 
 pub facts-read : (read write : Fraction) → 1 ≤ read .den → read .den ≤ 16777216 → read .num ≤ read .den → atLeast read write ≡ true → readSound read write ≡ true
@@ -85,19 +88,21 @@ sound-facts t e = record {
   high = range-high (t .capacity) (t .salt) (search and-l);
   salted = ltb-true (t .salt) 1073741824 (search (and-l, and-r));
   few = leb-true (t .count) 256 (search (and-l, and-r));
+  bounds = search (and-l, and-r);
   server = λ k l. server-facts t k (allBelow-out (serverSound t) (t .count) (search (and-l, and-r)) k l);
 }
 
 -- as a loop over the servers shows it
-pub tested-sound : (t : Table) → inRange (t .capacity) (t .salt) ≡ true → t .count ≤ 256 → allBelow (serverSound t) (t .count) ≡ true → sound t ≡ true
+pub tested-sound : (t : Table) → inRange (t .capacity) (t .salt) ≡ true → t .count ≤ 256 → inBounds (t .counters) ≡ true → allBelow (serverSound t) (t .count) ≡ true → sound t ≡ true
 unfolding sound
-tested-sound t a b c = and-i _ _ a (and-i _ _ (le-leb _ _ b) c)
+tested-sound t a b c d = and-i _ _ a (and-i _ _ (le-leb _ _ b) (and-i _ _ c d))
 
 pub facts-sound : (t : Table) → Sound t → sound t ≡ true
 unfolding inRange
 facts-sound t s = tested-sound t
     (and-i _ _ (le-leb _ _ (s .low)) (and-i _ _ (le-leb _ _ (s .high)) (lt-ltb _ _ (s .salted))))
     (s .few)
+    (s .bounds)
     (allBelow-in (serverSound t) (t .count) (λ k l. facts-server t k (s .server k l)))
 
 -- one server that is not sound
@@ -109,8 +114,8 @@ pub sound-bounded : (t : Table) → length (t .weights) ≡ 256 → Sound t → 
 sound-bounded t a s = record { few = s .few; each = omega (arith, s .few); light = λ k l. omega (arith, s .server k l .light, s .high) }
 
 pub empty-sound : (capacity salt : ℕ) → inRange capacity salt ≡ true → sound (empty capacity salt) ≡ true
-unfolding allBelow
-empty-sound capacity salt r = tested-sound (empty capacity salt) r (omega arith) refl
+unfolding allBelow inBounds
+empty-sound capacity salt r = tested-sound (empty capacity salt) r (omega arith) refl refl
 
 -- a server is as sound in another table that has the same there, and the same weights up to there
 pub server-same : (t u : Table) (k : ℕ) → u .capacity ≡ t .capacity → ((i : ℕ) → i ≤ k → weightOf u i ≡ weightOf t i) → usedOf u k ≡ usedOf t k → readP u k ≡ readP t k → SoundServer t k → SoundServer u k

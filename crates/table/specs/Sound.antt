@@ -1,10 +1,11 @@
--- When a table is sound (document 01, "The table", and document 02, item 4), for arbitrary bits. Only positions below the count
--- are read.
+-- When a table is sound (document 01, "The table", and document 02, items 4 and 5), for arbitrary bits. Only positions below
+-- the count are read.
 use Prim.Native.Nat.{ℕ}
 use mathlib.Core.Bool.{Bool, _&&_}
 use lib.Dec.{leb, ltb}
 use Rattle.limits.specs.Limits.{maxServers, maxCapacity, maxSum, contentRange}
 use Rattle.lists.specs.Below.{allBelow}
+use Rattle.counters.specs.Counter.{inBounds}
 use Rattle.placement.specs.declared.Fraction.{Fraction}
 use Rattle.placement.specs.Fraction.{atLeast}
 use Rattle.placement.specs.Rule.{writeP}
@@ -36,4 +37,5 @@ unfoldable pub sound : Table → Bool
 sound t =
     inRange (t .capacity) (t .salt)
     && (leb (t .count) maxServers
-    && allBelow (serverSound t) (t .count))
+    && (inBounds (t .counters)
+    && allBelow (serverSound t) (t .count)))

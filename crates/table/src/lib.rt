@@ -5,14 +5,16 @@ ghost use Rattle.table.specs.Parts.{tableOf, Whole, empty};
 ghost use Rattle.table.specs.Sound.{inRange, readSound, sound};
 use limits::CONTENT_RANGE;
 use limits::Column;
+use limits::Counters;
 use limits::MAX_CAPACITY;
 use limits::MAX_SERVERS;
 use limits::MAX_SUM;
+use limits::TENANTS;
 use placement::Fraction;
 
 // Document 01's table: capacity is its E, the entries of a server; salt document 02's rack key; count the count of fitted shelves;
-// the four arrays have for each server its weight, the entries used, and ReadP as a pair. Positions at or above the count mean
-// nothing.
+// four arrays have for each server its weight, the entries used, and ReadP as a pair, and their positions at or above the count
+// mean nothing; the counters have for each tenant the servers that its lookups opened.
 pub struct Table {
     pub capacity: u32,
     pub salt: u32,
@@ -21,13 +23,14 @@ pub struct Table {
     pub used: Column,
     pub numerators: Column,
     pub denominators: Column,
+    pub counters: Counters,
 }
 
-// The columns of a table, lent together, in the order of its fields. Each is a slice, so that it may be a part of lent words; who
-// takes them asks that each has a number for each server that there may be (`Whole`).
-pub type Columns<'a> = [&'a [u32]; 4];
+// The columns of a table and its counters, lent together, in the order of its fields. Each is a slice, so that it may be a part of
+// lent words; who takes them asks that each has all its numbers (`Whole`).
+pub type Columns<'a> = [&'a [u32]; 5];
 
-// The numbers that a table has once, and not for each server.
+// The numbers that a table has once, and not for each server or tenant.
 pub struct Shape {
     pub capacity: u32,
     pub salt: u32,
@@ -46,6 +49,7 @@ pub fn empty(capacity: u32, salt: u32) -> Table
         used: [0; MAX_SERVERS],
         numerators: [0; MAX_SERVERS],
         denominators: [0; MAX_SERVERS],
+        counters: [0; TENANTS],
     }
 }
 
@@ -94,6 +98,9 @@ pub fn is_sound<'a>(shape: Shape, columns: Columns<'a>) -> bool
         return false;
     }
     if count > MAX_SERVERS {
+        return false;
+    }
+    if !counters::in_bounds(columns[4]) {
         return false;
     }
     let mut sum: u32 = 0;

@@ -16,7 +16,7 @@ pub fn tenant_of(id: u32) -> u32
 pub fn out_of_range(tenant: u32, id: u32) -> bool
     ensures { λ r. ⌜ r ≡ outOfRange tenant id ⌝ }
 {
-    (TENANTS <= tenant) | (CONTENT_RANGE <= id)
+    (TENANTS <= tenant as usize) | (CONTENT_RANGE <= id)
 }
 
 // Whether the id is another tenant's than the caller's.

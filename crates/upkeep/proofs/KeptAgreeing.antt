@@ -11,7 +11,7 @@ use Rattle.table.specs.declared.Table.{Table}
 use Rattle.table.specs.Parts.{weightOf, usedOf, readP}
 use Rattle.table.proofs.Soundness.{Arrays}
 use Rattle.table.proofs.Agreement.{AgreeBelow}
-use Rattle.upkeep.specs.Upkeep.{withServer, withWeight, withEntry}
+use Rattle.upkeep.specs.Upkeep.{withServer, withWeight, withEntry, withOpened}
 use Rattle.upkeep.proofs.Upkeep.{withServer-is, withWeight-is, withEntry-is}
 
 pub agree-withServer : (t u : Table) (weight : ℕ) → Arrays t → Arrays u → t .count < 256 → AgreeBelow t u → AgreeBelow (withServer t weight) (withServer u weight)
@@ -77,3 +77,14 @@ agree-withEntry t u server a b f l g =
           (λ n. c .usedOld k n ∙ g .used k (omega arith) ∙ sym (d .usedOld k n));
       read = λ k m. c .read k ∙ g .read k (omega arith) ∙ sym (d .read k);
     }
+
+pub agree-withOpened : (t u : Table) (tenant tenant′ opened opened′ : ℕ) → AgreeBelow t u → AgreeBelow (withOpened t tenant opened) (withOpened u tenant′ opened′)
+unfolding withOpened
+agree-withOpened t u tenant tenant′ opened opened′ g = record {
+  capacity = g .capacity;
+  salt = g .salt;
+  count = g .count;
+  weight = g .weight;
+  used = g .used;
+  read = g .read;
+}

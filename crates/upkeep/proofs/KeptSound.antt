@@ -3,18 +3,21 @@
 use Prim.Native.Nat.{ℕ, suc, _≤_, _<_}
 use mathlib.Core.Path.{_≡_, ap, ap₂, _∙_}
 use mathlib.Core.Bool.{true}
+use mathlib.Core.List.{List}
 use native.Mathlib.Omega.{arith}
 use Rattle.lists.proofs.Tests.{byBool, at-or-else}
+use Rattle.counters.specs.Counter.{inBounds}
+use Rattle.counters.proofs.Counters.{counted-bounds}
 use Rattle.placement.specs.declared.Fraction.{Fraction}
 use Rattle.placement.specs.Fraction.{atLeast, raise}
 use Rattle.placement.specs.Rule.{writeP}
 use Rattle.placement.proofs.Fractions.{atLeast-refl}
 use Rattle.placement.proofs.Rules.{writeP-proper, writeP-small, writeP-cong}
 use Rattle.table.specs.declared.Table.{Table}
-use Rattle.table.specs.Parts.{weightOf, usedOf, readP}
-use Rattle.table.specs.Sound.{readSound, sound}
+use Rattle.table.specs.Parts.{withCounters, weightOf, usedOf, readP}
+use Rattle.table.specs.Sound.{readSound, serverSound, sound}
 use Rattle.table.proofs.Soundness.{Arrays, SoundServer, facts-read, parts, read-part, sound-facts, facts-sound, server-same}
-use Rattle.upkeep.specs.Upkeep.{withServer, withWeight, withEntry}
+use Rattle.upkeep.specs.Upkeep.{withServer, withWeight, withEntry, withOpened}
 use Rattle.upkeep.proofs.Upkeep.{withServer-is, withWeight-is, withEntry-is}
 
 -- WriteP as a ReadP
@@ -46,6 +49,7 @@ module _ (t : Table) (weight : ℕ) (a : Arrays t) (h : sound t ≡ true) (l : t
         high = omega arith;
         salted = omega arith;
         few = omega arith;
+        bounds = ap inBounds (c .counters) ∙ s .bounds;
         server = λ k m. at-or-else (SoundServer u) (t .count) k
             (parts u (t .count)
             (omega arith)
@@ -75,6 +79,7 @@ module _ (t : Table) (server weight : ℕ) (a : Arrays t) (h : sound t ≡ true)
         high = omega arith;
         salted = omega arith;
         few = omega arith;
+        bounds = ap inBounds (c .counters) ∙ s .bounds;
         server = λ k m.
             let i : k < t .count = omega arith in
             let o = s .server k i in
@@ -95,6 +100,7 @@ withEntry-sound t server a h l r =
       high = omega arith;
       salted = omega arith;
       few = omega arith;
+      bounds = ap inBounds (c .counters) ∙ s .bounds;
       server = λ k m.
           let o = s .server k (omega arith) in
           parts u k
@@ -102,3 +108,13 @@ withEntry-sound t server a h l r =
           (at-or-else (λ i. usedOf u i ≤ u .capacity) server k (omega arith) (λ n. omega (arith, c .usedOld k n)))
           (ap₂ readSound (c .read k) (writeP-cong (weightOf u) (weightOf t) k (λ j q. c .weight j)) ∙ read-part t k o);
     })
+
+-- a table is as sound with other counters, if these are within their bounds exactly when its own are
+pub counters-sound : (t : Table) (counters : List ℕ) → inBounds counters ≡ inBounds (t .counters) → sound (withCounters t counters) ≡ sound t
+unfolding sound serverSound
+counters-sound t counters e = rw e
+
+-- no counter falls, and each stops at its bound
+pub withOpened-sound : (t : Table) (tenant opened : ℕ) → sound (withOpened t tenant opened) ≡ sound t
+unfolding withOpened
+withOpened-sound t tenant opened = counters-sound t _ (counted-bounds (t .counters) tenant opened)

@@ -22,7 +22,7 @@ abbrev pub better : Table → ℕ → Fraction
 better t k = raise (readP t k) (writeP (weightOf t) k)
 
 abbrev pub withReads : Table → List ℕ → List ℕ → Table
-withReads t numerators denominators = tableBy (shapeOf t) (t .weights) (t .used) numerators denominators
+withReads t numerators denominators = tableBy (shapeOf t) (t .weights) (t .used) numerators denominators (t .counters)
 
 unfoldable pub raisedBelow : Table → ℕ → Table
 raisedBelow t n = withReads t (setBelow (λ k. better t k .num) n (t .numerators)) (setBelow (λ k. better t k .den) n (t .denominators))

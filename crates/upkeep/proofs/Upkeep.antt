@@ -1,20 +1,21 @@
--- What the three updates of a table leave at each server, and that the arrays keep their lengths.
+-- What the updates of a table leave at each server, and that the arrays keep their lengths.
 -- Assumes nothing.
 use Prim.Native.Nat.{ℕ, suc, _≤_, _<_}
-use mathlib.Core.Path.{_≡_, refl}
+use mathlib.Core.Path.{_≡_, refl, _∙_}
 use mathlib.Core.Logic.{_≢_}
 use mathlib.Core.Bool.{true}
 use native.Mathlib.Omega.{arith}
 use lib.ListN.{length-set}
 use lib.Seq.{getD-set-same, getD-set-other}
 use Rattle.lists.proofs.Below.{length-setBelow, setBelow-at}
+use Rattle.counters.proofs.Counters.{counted-long}
 use Rattle.placement.specs.Fraction.{atLeast, raise}
 use Rattle.placement.specs.Rule.{writeP}
 use Rattle.placement.proofs.Fractions.{raise-is, fraction-eq}
 use Rattle.table.specs.declared.Table.{Table}
 use Rattle.table.specs.Parts.{weightOf, usedOf, readP}
 use Rattle.table.proofs.Soundness.{Arrays}
-use Rattle.upkeep.specs.Upkeep.{withServer, withWeight, oneMore, withEntry}
+use Rattle.upkeep.specs.Upkeep.{withServer, withWeight, oneMore, withEntry, withOpened}
 
 pub withServer-arrays : (t : Table) (weight : ℕ) → Arrays t → Arrays (withServer t weight)
 unfolding withServer
@@ -23,6 +24,7 @@ withServer-arrays t weight a = record {
   used = simp length-set (a .used);
   numerators = simp length-set (a .numerators);
   denominators = simp length-set (a .denominators);
+  counters = a .counters;
 }
 
 pub withWeight-arrays : (t : Table) (server weight : ℕ) → Arrays t → Arrays (withWeight t server weight)
@@ -32,6 +34,7 @@ withWeight-arrays t server weight a = record {
   used = a .used;
   numerators = simp length-setBelow (a .numerators);
   denominators = simp length-setBelow (a .denominators);
+  counters = a .counters;
 }
 
 pub withEntry-arrays : (t : Table) (server : ℕ) → Arrays t → Arrays (withEntry t server)
@@ -41,12 +44,24 @@ withEntry-arrays t server a = record {
   used = simp length-set (a .used);
   numerators = a .numerators;
   denominators = a .denominators;
+  counters = a .counters;
+}
+
+pub withOpened-arrays : (t : Table) (tenant opened : ℕ) → Arrays t → Arrays (withOpened t tenant opened)
+unfolding withOpened
+withOpened-arrays t tenant opened a = record {
+  weights = a .weights;
+  used = a .used;
+  numerators = a .numerators;
+  denominators = a .denominators;
+  counters = counted-long (t .counters) tenant opened ∙ a .counters;
 }
 
 -- u is t with one server more
 pub record ServerAdded (t : Table) (weight : ℕ) (u : Table) : Type 0 where
   pub capacity : u .capacity ≡ t .capacity
   pub salt : u .salt ≡ t .salt
+  pub counters : u .counters ≡ t .counters
   pub count : u .count ≡ suc (t .count)
   pub weightNew : weightOf u (t .count) ≡ weight
   pub weightOld : (k : ℕ) → k < t .count → weightOf u k ≡ weightOf t k
@@ -59,6 +74,7 @@ pub record ServerAdded (t : Table) (weight : ℕ) (u : Table) : Type 0 where
 pub record WeightChanged (t : Table) (server weight : ℕ) (u : Table) : Type 0 where
   pub capacity : u .capacity ≡ t .capacity
   pub salt : u .salt ≡ t .salt
+  pub counters : u .counters ≡ t .counters
   pub count : u .count ≡ t .count
   pub weightNew : weightOf u server ≡ weight
   pub weightOld : (k : ℕ) → k ≢ server → weightOf u k ≡ weightOf t k
@@ -69,6 +85,7 @@ pub record WeightChanged (t : Table) (server weight : ℕ) (u : Table) : Type 0 
 pub record EntryAdded (t : Table) (server : ℕ) (u : Table) : Type 0 where
   pub capacity : u .capacity ≡ t .capacity
   pub salt : u .salt ≡ t .salt
+  pub counters : u .counters ≡ t .counters
   pub count : u .count ≡ t .count
   pub weight : (k : ℕ) → weightOf u k ≡ weightOf t k
   pub usedNew : usedOf u server ≡ suc (usedOf t server)
@@ -80,6 +97,7 @@ unfolding withServer
 withServer-is t weight a l = record {
   capacity = refl;
   salt = refl;
+  counters = refl;
   count = refl;
   weightNew = getD-set-same (t .weights) (t .count) _ 0 (omega (arith, a .weights));
   weightOld = λ k h. getD-set-other (t .weights) (t .count) k _ 0 (λ e. omega arith);
@@ -98,6 +116,7 @@ unfolding withWeight
 withWeight-is t server weight a l s = record {
   capacity = refl;
   salt = refl;
+  counters = refl;
   count = refl;
   weightNew = getD-set-same (t .weights) server _ 0 (omega (arith, a .weights));
   weightOld = λ k n. getD-set-other (t .weights) server k _ 0 n;
@@ -112,6 +131,7 @@ unfolding withEntry oneMore
 withEntry-is t server a l s = record {
   capacity = refl;
   salt = refl;
+  counters = refl;
   count = refl;
   weight = λ k. refl;
   usedNew = getD-set-same (t .used) server _ 0 (omega (arith, a .used));

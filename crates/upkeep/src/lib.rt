@@ -1,13 +1,15 @@
-// The tables that calls make of a sound table: one server more, another weight, one entry more used.
+// The tables that calls make of a table: one server more, another weight, one entry more used, servers opened for a tenant.
 ghost use mathlib.Core.Path.{_≡_};
 ghost use mathlib.Core.Bool.{true};
 ghost use Prim.Native.Nat.{_<_, _≤_};
 ghost use lib.ListN.{length};
 ghost use Rattle.limits.specs.Limits.{maxServers, maxCapacity};
 ghost use Rattle.lists.specs.Below.{nth};
+ghost use Rattle.counters.specs.Counter.{counted};
 ghost use Rattle.table.specs.Sound.{sound};
-ghost use Rattle.upkeep.specs.Upkeep.{withServer, withWeight, oneMore, withEntry};
+ghost use Rattle.upkeep.specs.Upkeep.{withServer, withWeight, oneMore, withEntry, withOpened};
 use limits::Column;
+use limits::Counters;
 use placement::Fraction;
 use table::Table;
 
@@ -85,5 +87,21 @@ pub fn with_entry(table: Table, server: usize) -> Table
 {
     let mut next = table;
     count_in(&mut next.used, server);
+    next
+}
+
+// Counts opened servers among the counters of a table by value, for the same reason.
+pub fn count_opened(counters: &mut Counters, tenant: u32, opened: usize)
+    ensures { λ _. ⌜ now (counters .exit) ≡ counted (now (counters .entry)) tenant opened ⌝ }
+{
+    counters::count(counters, tenant, opened);
+}
+
+// A table of any bits with servers opened for a tenant.
+pub fn with_opened(table: Table, tenant: u32, opened: usize) -> Table
+    ensures { λ r. ⌜ r ≡ withOpened table tenant opened ⌝ }
+{
+    let mut next = table;
+    count_opened(&mut next.counters, tenant, opened);
     next
 }

@@ -4,14 +4,16 @@ use batch_answer::Batch;
 use table::Table;
 
 // The refusal of tenant 0's batch of 256 times id 2, or of one more.
-fn longest(table: Table, medium: &[u32], over: bool) -> u64 {
+fn longest(table: Table, medium: &[u32], over: bool, text: &[u8]) -> Table {
     let ids: [u32; 257] = [2; 257];
     if over {
-        let batch = batch::lookup_batch(table, medium, 0, &ids);
-        return batch.refusal as u64;
+        let looked = batch::lookup_batch(table, medium, 0, &ids);
+        vectors_calls::print_number(text, looked.batch.refusal as u64);
+        return looked.table;
     }
-    let batch = batch::lookup_batch(table, medium, 0, &ids[..256]);
-    batch.refusal as u64
+    let looked = batch::lookup_batch(table, medium, 0, &ids[..256]);
+    vectors_calls::print_number(text, looked.batch.refusal as u64);
+    looked.table
 }
 
 fn wide(x: u32) -> u64 {
@@ -30,17 +32,19 @@ fn part(batch: Batch, letter: u8, i: usize) -> u64
     }
 }
 
-// 3 is refusal, value and opened count at a position; 6 and 7 are the batches of 256 and of 257 ids.
-pub fn show(table: Table, medium: &[u32], letter: u8, numbers: [u32; 8], text: &[u8]) {
+// 3 is refusal, value and opened count at a position; 6 and 7 are the batches of 256 and of 257 ids. The table after the batch is
+// handed back.
+pub fn show(table: Table, medium: &[u32], letter: u8, numbers: [u32; 8], text: &[u8]) -> Table {
     if letter >= b'6' {
-        vectors_calls::print_number(text, longest(table, medium, letter == b'7'));
-        return;
+        return longest(table, medium, letter == b'7', text);
     }
     let i = (numbers[5] % 256) as usize;
-    let batch = batch::lookup_batch(table, medium, numbers[6], &numbers[..5]);
+    let looked = batch::lookup_batch(table, medium, numbers[6], &numbers[..5]);
+    let batch = looked.batch;
     if letter == b'3' {
         vectors_calls::print_three(text, batch.refusals[i], batch.values[i], batch.opened[i]);
     } else {
         vectors_calls::print_number(text, part(batch, letter, i));
     }
+    looked.table
 }

@@ -16,8 +16,7 @@ use table::Table;
 // A digit is for a part of a batch, a small letter for the method on plain numbers, and a capital letter for a call.
 fn run_case(table: Table, medium: &mut [u32], letter: u8, numbers: [u32; 8], text: &[u8]) -> Table {
     if letter <= b'9' {
-        batches::show(table, medium, letter, numbers, text);
-        return table;
+        return batches::show(table, medium, letter, numbers, text);
     }
     if letter >= b'a' {
         vectors_calls::show_draw(letter, numbers, text);

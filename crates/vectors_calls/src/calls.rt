@@ -1,5 +1,6 @@
 // The calls on a table: each prints its reply and hands the table back.
 use crate::print;
+use limits::TENANTS;
 use table::Table;
 
 pub fn start(capacity: u32) -> Table {
@@ -69,11 +70,11 @@ fn delete(table: Table, medium: &mut [u32], tenant: u32, id: u32, text: &[u8]) -
     table
 }
 
-fn lookup(table: Table, medium: &[u32], tenant: u32, id: u32, text: &[u8]) {
-    print::reply(
-        text,
-        replies::lookup_reply(lookup::lookup(table, medium, tenant, id)),
-    );
+fn lookup(table: Table, medium: &[u32], tenant: u32, id: u32, text: &[u8]) -> Table {
+    let looked = lookup::lookup(table, medium, tenant, id);
+    let answer = looked.answer;
+    print::reply(text, replies::lookup_reply(answer));
+    looked.table
 }
 
 fn wide(x: u32) -> u64 {
@@ -96,8 +97,26 @@ fn burn(table: Table, medium: &mut [u32], i: u32, word: u32) -> Table {
     table
 }
 
-// A adds servers and prints no reply, V shows a word; the others are the day sheet's letters. The caller's tenant is the first
-// number of L.
+fn show_counter(table: Table, tenant: u32, text: &[u8]) -> Table {
+    let at = tenant as usize;
+    if at < TENANTS {
+        print::print_number(text, wide(table.counters[at]));
+    }
+    table
+}
+
+// Sets a tenant's counter from outside.
+fn set_counter(table: Table, tenant: u32, counter: u32) -> Table {
+    let at = tenant as usize;
+    let mut next = table;
+    if at < TENANTS {
+        next.counters[at] = counter;
+    }
+    next
+}
+
+// A adds servers and prints no reply, V shows a word, C a tenant's counter, and T sets one from outside; the others are the day
+// sheet's letters. The caller's tenant is the first number of L.
 fn run_reading(table: Table, medium: &[u32], letter: u8, a: u32, b: u32, text: &[u8]) -> Table {
     match letter {
         b'S' => return start_anew(a, b, text),
@@ -105,7 +124,9 @@ fn run_reading(table: Table, medium: &[u32], letter: u8, a: u32, b: u32, text: &
         b'G' => return reweight(table, a as usize, b, text),
         b'A' => return add_servers(table, medium, a),
         b'V' => show_word(medium, a, text),
-        b'L' => lookup(table, medium, a, b, text),
+        b'L' => return lookup(table, medium, a, b, text),
+        b'C' => return show_counter(table, a, text),
+        b'T' => return set_counter(table, a, b),
         _ => {}
     }
     table

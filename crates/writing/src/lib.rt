@@ -88,6 +88,7 @@ pub fn write(table: Table, medium: &mut [u32], tenant: u32, id: u32, value: u32)
         &table.used,
         &table.numerators,
         &table.denominators,
+        &table.counters,
     ];
     let answer = write_in(shape, columns, &steps, medium, tenant, id, value);
     match answer {

@@ -1,235 +1,38 @@
--- `batch::lookup_batch` meets its contract. The invariant: how far the batch is, as `BatchFrom` says.
-use Prim.Native.Nat.{ℕ, suc, _+_, _-_, _≤_, _<_}
-use mathlib.Core.Bool.{false}
-use mathlib.Core.Path.{_≡_, sym, _∙_}
-use mathlib.Core.Logic.{⊎-elim}
-use mathlib.Core.List.{List}
-use native.Mathlib.Omega.{arith}
+-- `batch::lookup_batch` meets its contract: the batch on borrowed columns, and then the count.
+use mathlib.Core.Path.{_≡_, ap, _∙_}
 use borrow.Author.Needs.{needs}
-use lib.ListN.{length}
-use Rattle.lists.specs.Below.{nth}
-use Rattle.table.specs.declared.Table.{Table}
-use Rattle.replies.specs.Refusal.{firstOf}
-use Rattle.replies.proofs.Refusals.{settle-yes, settle-no}
-use Rattle.checks.specs.Ready.{readyRows}
-use Rattle.checks.proofs.Passed.{Ready}
-use Rattle.search.proofs.Finding.{each-inside}
-use Rattle.batch.proofs.BatchParts.{BatchFrom, servers, batch-refused, batch-start, mounted-few, ready-there, opened-few, batch-opened, batch-closed, ends-given, batch-done}
+use Rattle.upkeep.specs.Upkeep.{withOpened}
+use Rattle.batch_answer.specs.declared.Batch.{Batch}
+use Rattle.batch_answer.specs.Answer.{openedIn}
+use Rattle.batch.specs.Batch.{batchTable}
 use Rattle.batch.proofs.lookup_batch.Statement.{statement}
 use Rattle.batch.proofs.lookup_batch.Tie as tie
 
-abbrev Inv-loop : tie.InvT-loop
-Inv-loop medium tenant ids table shape n number servers steps parts₀ mounts₀ k₀ parts mounts k = BatchFrom table medium tenant ids k parts mounts
+lookup-batch-in-requires : tie.Need-lookup-batch-in-requires
+lookup-batch-in-requires c κs = search needs
 
-abbrev μ-loop : tie.MeasureT-loop
-μ-loop medium tenant ids table shape n number servers steps parts₀ mounts₀ k₀ parts mounts k = k
+sum-requires : tie.Need-sum-requires
+sum-requires c κs = search needs
 
--- the start, from the place where the columns are lent and from where the number of servers is known
-abbrev B : tie.After-t262 Inv-loop μ-loop → tie.Start Inv-loop μ-loop
-B c = c .before .before .before .before .before .before .before .before .before .before .before
+with-opened-requires : tie.Need-with-opened-requires
+with-opened-requires c κs = search needs
 
-abbrev J : tie.Joined2 Inv-loop μ-loop → tie.Start Inv-loop μ-loop
-J j = B (j .before .before .before .before)
+abbrev S : tie.After-lookup-batch-in → tie.Start
+S c = c .before .before .before .before .before .before .before .before .before .before .before .before .before .before
 
-abbrev S : tie.At-loop Inv-loop μ-loop → tie.Start Inv-loop μ-loop
-S l = J (l .before .before .before)
+-- the sum of the opened counts is the batch's
+counted : (c : tie.After-sum) → let b = c .before .before .before .before in c .sum .result ≡ openedIn (b .lookup-batch-in .result)
+unfolding openedIn
+counted c = c .sum .ensures
 
--- table, medium, the caller's tenant and ids
-abbrev T : tie.Start Inv-loop μ-loop → Table
-T s = s .args .t1
-
-abbrev M : tie.Start Inv-loop μ-loop → List ℕ
-M s = s .args .medium .now
-
-abbrev C : tie.Start Inv-loop μ-loop → ℕ
-C s = s .args .tenant
-
-abbrev I : tie.Start Inv-loop μ-loop → List ℕ
-I s = s .args .ids .now
-
-refuse-list-requires : tie.Need-refuse-list-requires Inv-loop μ-loop
-refuse-list-requires c κs = search needs
-
-returns : tie.Need-returns Inv-loop μ-loop
+returns : tie.Need-returns
+unfolding batchTable
 returns c =
-    let s = B (c .before .before) in
-    c .refuse-list .ensures ∙ batch-refused (T s) (M s) (C s) (I s) (omega (arith, c .before .if1 .taken))
-
-ready-requires : tie.Need-ready-requires Inv-loop μ-loop
-ready-requires c κs = search needs
-
-check-number-requires : tie.Need-check-number-requires Inv-loop μ-loop
-check-number-requires c κs = search needs
-
-steps-requires : tie.Need-steps-requires Inv-loop μ-loop
-steps-requires c κs = search needs
-
-begin-requires : tie.Need-begin-requires Inv-loop μ-loop
-begin-requires c κs = search needs
-
-few : (j : tie.Joined2 Inv-loop μ-loop) → length (I (J j)) ≤ 256
-few j = let e = j .before .before .before in omega (arith, e .if1 .left)
-
--- what the tests say of an id in range, and how many servers the loop goes through
-number-here : (j : tie.Joined2 Inv-loop μ-loop) → j .before .check-number .result ≡ firstOf (readyRows (T (J j)) (M (J j)) false false)
-number-here j = j .before .check-number .ensures ∙ j .before .before .ready .ensures
-
-servers-here : (j : tie.Joined2 Inv-loop μ-loop) → j .if2 .servers ≡ servers (T (J j)) (M (J j)) (C (J j)) (I (J j))
-servers-here j =
-    let rows = readyRows (T (J j)) (M (J j)) false false in
-    let count = T (J j) .count in
-    ⊎-elim
-    (λ w. w .1 ∙ sym (settle-yes rows count 0 (sym (number-here j) ∙ w .0 .taken)))
-    (λ w. w .1 ∙ sym (settle-no rows count 0 (λ z. w .0 .left (number-here j ∙ z))))
-    (j .if2 .came)
-
-loop-holds : tie.Need-loop-holds Inv-loop μ-loop
-loop-holds c =
-    let j = c .before .before in
-    let s = J j in
-    batch-start (T s) (M s) (C s) (I s) (few j) (j .before .check-number .result) (j .if2 .servers) (number-here j) (servers-here j) (c .begin .result) (c .begin .ensures)
-
--- the loop's body: the server is there, and the batch is as the laws take it
-here : (c : tie.In-loop Inv-loop μ-loop) → let s = S (c .before) in (c .before .loop .k - 1 < T s .count) × Ready (T s) (M s)
-here c = let l = c .before in let s = S l in ready-there (T s) (M s) (C s) (I s) (l .loop .k - 1) (omega (arith, l .loop .inv .below))
-
-from : (c : tie.In-loop Inv-loop μ-loop) → let l = c .before in BatchFrom (T (S l)) (M (S l)) (C (S l)) (I (S l)) (suc (l .loop .k - 1)) (l .loop .parts) (l .loop .mounts)
-from c = let l = c .before in let e : l .loop .k ≡ suc (l .loop .k - 1) = omega arith in rw e at (l .loop .inv)
-
-low : (c : tie.In-loop Inv-loop μ-loop) → c .before .loop .k ≤ 256
-low c = omega (arith, here c .0, here c .1 .inside .few)
-
-sub-k : tie.Need-sub-k Inv-loop μ-loop
-sub-k c = search needs
-
-mul-t36 : tie.Need-mul-t36 Inv-loop μ-loop
-mul-t36 c = omega (arith, low (c .before))
-
-element-copy-out-t39 : tie.Need-element-copy-out-t39 Inv-loop μ-loop
-element-copy-out-t39 c = omega (arith, low (c .before))
-
-mul-used : tie.Need-mul-used Inv-loop μ-loop
-mul-used c = omega (arith, low (c .before .before))
-
-element-copy-out-used : tie.Need-element-copy-out-used Inv-loop μ-loop
-element-copy-out-used c = omega (arith, low (c .before .before))
-
-mul-used-2 : tie.Need-mul-used-2 Inv-loop μ-loop
-mul-used-2 c = omega (arith, low (c .before .before .before))
-
-element-copy-out-used-2 : tie.Need-element-copy-out-used-2 Inv-loop μ-loop
-element-copy-out-used-2 c = omega (arith, low (c .before .before .before))
-
-slice-aggregate-step-all : tie.Need-slice-aggregate-step-all Inv-loop μ-loop
-slice-aggregate-step-all c = search needs
-
-step-all-requires : tie.Need-step-all-requires Inv-loop μ-loop
-step-all-requires c κs =
-    let w = c .before .before .before .before .before in
-    let l = w .before in
-    let s = S l in
-    let h = here w in (
-      each-inside (T s .capacity) (T s .count) (l .loop .k - 1) (nth (T s .used)) (M s) (h .1 .inside) (h .0),
-      (
-        h .1 .inside .fits (l .loop .k - 1) (h .0),
-        (l .loop .inv .done .few, (opened-few (T s) (M s) (C s) (I s) (l .loop .k) (l .loop .parts) (l .loop .inv .done) (h .1 .inside .few), l .before .before .steps .ensures .0)),
-      ),
-    )
-
--- the loop's body, as the places after the server have it
-abbrev A : tie.After-has-arg Inv-loop μ-loop → tie.In-loop Inv-loop μ-loop
-A c = c .before .before .before .before .before .before .before .before
-
-abbrev W : tie.After-has Inv-loop μ-loop → tie.In-loop Inv-loop μ-loop
-W c = A (c .before)
-
-cast-has : tie.Need-cast-has Inv-loop μ-loop
-cast-has c = omega (arith, low (A c))
-
-add-has : tie.Need-add-has Inv-loop μ-loop
-add-has c = omega (arith, low (A c))
-
-has-requires : tie.Need-has-requires Inv-loop μ-loop
-has-requires c κs = search needs
-
-add-mounts : tie.Need-add-mounts Inv-loop μ-loop
-add-mounts c =
-    let w = W (c .before) in
-    let l = w .before in
-    omega (arith, mounted-few (T (S l)) (M (S l)) (C (S l)) (I (S l)) (l .loop .k) (l .loop .parts) (l .loop .mounts) (l .loop .inv), here w .1 .inside .few)
-
-loop-less : tie.Need-loop-less Inv-loop μ-loop
-loop-less c = search needs
-
-loop-again : tie.Need-loop-again Inv-loop μ-loop
-loop-again c =
-    let w = W (c .before) in
-    let l = w .before in
-    let s = S l in
-    batch-opened (T s) (M s) (C s) (I s) (l .loop .k - 1) (l .loop .parts) (l .loop .mounts) (from w)
-    (c .before .before .before .before .step-all .result) (c .before .before .before .before .step-all .ensures)
-    (l .loop .k - 1 + 1) (omega arith) (c .before .has .ensures) (c .if3 .taken)
-
-loop-less-2 : tie.Need-loop-less-2 Inv-loop μ-loop
-loop-less-2 c = search needs
-
-loop-again-2 : tie.Need-loop-again-2 Inv-loop μ-loop
-loop-again-2 c =
-    let w = W (c .before) in
-    let l = w .before in
-    let s = S l in
-    batch-closed (T s) (M s) (C s) (I s) (l .loop .k - 1) (l .loop .parts) (l .loop .mounts) (from w)
-    (c .before .before .before .before .step-all .result) (c .before .before .before .before .step-all .ensures)
-    (l .loop .k - 1 + 1) (omega arith) (c .before .has .ensures) (c .if3 .left)
-
--- after the loop no server is left
-all : (a : tie.After-loop Inv-loop μ-loop) → let l = a .before in BatchFrom (T (S l)) (M (S l)) (C (S l)) (I (S l)) 0 (l .loop .parts) (l .loop .mounts)
-all a = let l = a .before in let e : l .loop .k ≡ 0 = omega arith in rw e at (l .loop .inv)
-
-order-requires : tie.Need-order-requires Inv-loop μ-loop
-order-requires c κs =
-    let a = c .before .before .before .before .before in
-    let l = a .before in
-    let s = S l in
-    let g = ends-given (T s) (M s) (C s) (I s) (l .loop .parts) (l .loop .mounts) (all a) (l .before .before .before .if2 .servers) (servers-here (l .before .before .before)) in
-    (few (l .before .before .before), (g .0, g .1))
-
-returns-2 : tie.Need-returns-2 Inv-loop μ-loop
-returns-2 c =
-    let a = c .before .before .before .before .before .before in
-    let l = a .before in
-    let s = S l in
-    batch-done (T s) (M s) (C s) (I s) (l .loop .parts) (l .loop .mounts) (all a) (l .before .before .before .if2 .servers) (servers-here (l .before .before .before)) (c .order .result) (c .order .ensures)
+    let b = c .before .before .before .before .before in
+    let a = S b .args in
+    let counts : withOpened (a .t1) (a .tenant) (c .before .sum .result) ≡ batchTable (a .t1) (a .medium .now) (a .tenant) (a .ids .now)
+    = ap (withOpened (a .t1) (a .tenant)) (counted (c .before) ∙ ap openedIn (b .lookup-batch-in .ensures)) in
+    (b .lookup-batch-in .ensures, c .with-opened .ensures ∙ counts)
 
 pub lookup-batch-spec : {M : Type 1} → statement M
-lookup-batch-spec =
-    tie.close
-    (tie.spec
-    Inv-loop
-    μ-loop
-    refuse-list-requires
-    returns
-    ready-requires
-    check-number-requires
-    steps-requires
-    begin-requires
-    loop-holds
-    sub-k
-    mul-t36
-    element-copy-out-t39
-    mul-used
-    element-copy-out-used
-    mul-used-2
-    element-copy-out-used-2
-    slice-aggregate-step-all
-    step-all-requires
-    cast-has
-    add-has
-    has-requires
-    add-mounts
-    loop-less
-    loop-again
-    loop-less-2
-    loop-again-2
-    order-requires
-    returns-2)
+lookup-batch-spec = tie.close (tie.spec lookup-batch-in-requires sum-requires with-opened-requires returns)

@@ -2,7 +2,8 @@
 use native.Mathlib.Omega.{arith}
 use borrow.Author.Needs.{needs}
 use Rattle.table_words.specs.Words.{usedOffset}
-use Rattle.call_words.proofs.Columns.{length-column, column-stored}
+use Rattle.table_words.proofs.Lent.{length-column}
+use Rattle.call_words.proofs.Columns.{column-stored}
 use Rattle.call_words.proofs.count.Statement.{statement}
 use Rattle.call_words.proofs.count.Tie as tie
 

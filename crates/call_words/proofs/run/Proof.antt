@@ -1,5 +1,4 @@
 -- `call_words::run` meets its contract: add_server and reweight by the table by value, every other call on the words.
-use mathlib.Core.Path.{_∙_}
 use mathlib.Core.Logic.{_≢_}
 use native.Mathlib.Omega.{arith}
 use borrow.Author.Needs.{needs}
@@ -51,6 +50,9 @@ count-requires c κs =
     let a = W r .args in
     (W r .pre .0, counts-there (a .table .now) (a .medium .now) (a .number) (a .tenant) (a .subject) (a .amount) (W r .pre .0) _ (r .run-on .ensures .0))
 
+count-opened-requires : tie.Need-count-opened-requires
+count-opened-requires c κs = search needs
+
 same-length-3 : tie.Need-same-length-3
 same-length-3 c = search needs
 
@@ -59,12 +61,13 @@ same-length-4 c = search needs
 
 returns-2 : tie.Need-returns-2
 returns-2 c =
-    let n = c .before .before in
+    let o = c .before .before in
+    let n = o .before .before .before .before in
     let r = n .before .before .before .before in
     let a = W r .args in
     let one : a .number ≢ addServerNumber = λ e. omega (arith, r .before .before .before .if1 .left) in
     let two : a .number ≢ reweightNumber = λ e. omega (arith, r .before .before .before .if1 .left) in
-    (r .run-on .ensures .0, (n .count .ensures ∙ counted-words (a .table .now) (a .medium .now) (a .number) (a .tenant) (a .subject) (a .amount) (W r .pre .0) _ (r .run-on .ensures .0) one two, r .run-on .ensures .1))
+    (r .run-on .ensures .0, (counted-words (a .table .now) (a .medium .now) (a .number) (a .tenant) (a .subject) (a .amount) (W r .pre .0) _ (r .run-on .ensures .0) one two _ _ (n .count .ensures) (o .count-opened .ensures), r .run-on .ensures .1))
 
 pub run-spec : {M : Type 1} → statement M
 run-spec =
@@ -78,6 +81,7 @@ run-spec =
     returns
     run-on-requires
     count-requires
+    count-opened-requires
     same-length-3
     same-length-4
     returns-2)

@@ -3,19 +3,20 @@ use Prim.Native.Nat.{_-_, _≤_}
 use mathlib.Core.Path.{_≡_}
 use native.Mathlib.Omega.{arith}
 use borrow.Author.Needs.{needs}
+use Rattle.limits.specs.Limits.{maxServers}
 use Rattle.lists.specs.Array.{arrayAt}
 use Rattle.lists.proofs.Arrays.{arrayAt-none, arrayAt-more}
 use Rattle.lists.proofs.array_at.Statement.{statement}
 use Rattle.lists.proofs.array_at.Tie as tie
 
 abbrev Inv-loop : tie.InvT-loop
-Inv-loop words from n array₀ i₀ array i = (i ≤ n) × (array ≡ arrayAt words from i)
+Inv-loop words from n array₀ i₀ array i = (i ≤ n) × (array ≡ arrayAt maxServers words from i)
 
 abbrev μ-loop : tie.MeasureT-loop
 μ-loop words from n array₀ i₀ array i = n - i
 
 loop-holds : tie.Need-loop-holds Inv-loop μ-loop
-loop-holds c = (search needs, arrayAt-none _ _)
+loop-holds c = (search needs, arrayAt-none maxServers _ _)
 
 add-array : tie.Need-add-array Inv-loop μ-loop
 add-array c = search needs
@@ -41,7 +42,7 @@ loop-less c = search needs
 loop-again : tie.Need-loop-again Inv-loop μ-loop
 loop-again c =
     let l = c .before .before in
-    (search needs, rw (l .loop .inv .1) (arrayAt-more _ _ (l .loop .i) (search needs) (search needs)))
+    (search needs, rw (l .loop .inv .1) (arrayAt-more maxServers _ _ (l .loop .i) (search needs) (search needs)))
 
 returns : tie.Need-returns Inv-loop μ-loop
 returns c =

@@ -24,7 +24,7 @@ enum-told c = search needs
 
 -- the table and the medium as lent, and the rows of the call
 abbrev S : tie.After-add-server → tie.Start
-S c = c .before .before .before .before .before .before .before .before .before .before .before
+S c = c .before .before .before .before .before .before .before .before .before .before .before .before .before
 
 abbrev T : tie.After-add-server → Table
 T c = S c .args .t1

@@ -24,7 +24,7 @@ enum-told c = search needs
 
 -- the table as lent, and the rows of the call
 abbrev S : tie.After-reweight → tie.Start
-S c = c .before .before .before .before .before .before .before .before .before .before
+S c = c .before .before .before .before .before .before .before .before .before .before .before .before
 
 abbrev T : tie.After-reweight → Table
 T c = S c .args .t1

@@ -2,6 +2,7 @@
 use mathlib.Core.Logic.{_≢_}
 use native.Mathlib.Omega.{arith}
 use borrow.Author.Needs.{needs}
+use Rattle.table.proofs.Soundness.{Arrays}
 use Rattle.replies.specs.Number.{addServerNumber, reweightNumber}
 use Rattle.history.specs.Machine.{State}
 use Rattle.dispatch.proofs.Calling.{counts, called-in}
@@ -10,7 +11,7 @@ use Rattle.sheet_call.proofs.run_by_value.Tie as tie
 
 -- the branch of the calls on borrowed columns, its start, and the state there
 abbrev E : tie.After-run-in → tie.Else1
-E r = r .before .before .before .before .before .before .before .before .before .before .before .before .before
+E r = r .before .before .before .before .before .before .before .before .before .before .before .before .before .before .before
 
 abbrev A : tie.After-run-in → tie.Start
 A r = E r .before .before
@@ -39,22 +40,30 @@ slice-aggregate-run-in c = search needs
 run-in-requires : tie.Need-run-in-requires
 run-in-requires c κs = (search needs, (search needs, search needs))
 
+-- the table's arrays are whole
+arrays : (s : tie.Start) → Arrays (s .args .t1)
+arrays s = search needs
+
 count-in-requires : tie.Need-count-in-requires
 count-in-requires c κs =
     let r = c .before .before .before in
     let a = A r .args in
-    counts (S r) (a .number) (a .tenant) (a .subject) (a .amount) (r .run-in .result) (r .run-in .ensures .0) (search needs)
+    counts (S r) (a .number) (a .tenant) (a .subject) (a .amount) (r .run-in .result) (r .run-in .ensures .0) (arrays (A r) .used)
+
+count-opened-requires : tie.Need-count-opened-requires
+count-opened-requires c κs = search needs
 
 same-length-2 : tie.Need-same-length-2
 same-length-2 c = search needs
 
 returns-2 : tie.Need-returns-2
 returns-2 c =
-    let r = c .before .before .before .before in
+    let n = c .before .before in
+    let r = n .before .before .before .before in
     let a = A r .args in
     let one : a .number ≢ addServerNumber = λ e. omega (arith, E r .if1 .left) in
     let two : a .number ≢ reweightNumber = λ e. omega (arith, E r .if1 .left) in
-    called-in (S r) (a .number) (a .tenant) (a .subject) (a .amount) (r .run-in .result) (r .run-in .ensures .0) _ _ one two (c .count-in .ensures) (r .run-in .ensures .1)
+    called-in (S r) (a .number) (a .tenant) (a .subject) (a .amount) (r .run-in .result) (r .run-in .ensures .0) _ _ _ one two (n .count-in .ensures) (c .count-opened .ensures) (r .run-in .ensures .1)
 
 pub run-by-value-spec : {M : Type 1} → statement M
 run-by-value-spec =
@@ -67,5 +76,6 @@ run-by-value-spec =
     slice-aggregate-run-in
     run-in-requires
     count-in-requires
+    count-opened-requires
     same-length-2
     returns-2)

@@ -7,6 +7,7 @@ use borrow.Author.Needs.{needs}
 use borrow.Author.Tests.{le-leb, lt-leb, not-true, not-false}
 use Rattle.lists.specs.Below.{allBelow, total}
 use Rattle.lists.proofs.Below.{total-more, allBelow-more}
+use Rattle.counters.specs.Counter.{inBounds}
 use Rattle.placement.specs.declared.Fraction.{Fraction}
 use Rattle.placement.specs.Rule.{shareOf, writeP}
 use Rattle.table.specs.declared.Table.{Table}
@@ -36,7 +37,7 @@ abbrev T : tie.After-denominators Inv-loop μ-loop → Table
 T c = let s = c .before .before .before .before in tableOf (s .args .shape) (s .args .t2)
 
 abbrev TL : tie.At-loop Inv-loop μ-loop → Table
-TL l = T (l .before .before .before .before)
+TL l = T (l .before .before .before .before .before .before .before)
 
 -- whether capacity and salt are in range, by the first test
 range-is : (c : tie.After-in-range Inv-loop μ-loop) (b : Bool) → c .in-range .result ≡ b → inRange (T (c .before) .capacity) (T (c .before) .salt) ≡ b
@@ -68,9 +69,25 @@ returns-2 : tie.Need-returns-2 Inv-loop μ-loop
 unfolding sound
 returns-2 c = rw (ranged (c .before), lt-leb _ _ (c .if2 .taken))
 
+array-copy-out-in-bounds : tie.Need-array-copy-out-in-bounds Inv-loop μ-loop
+array-copy-out-in-bounds c = search needs
+
+in-bounds-requires : tie.Need-in-bounds-requires Inv-loop μ-loop
+in-bounds-requires c κs = search needs
+
+-- whether the counters are within their bounds, by the third test
+bounds-are : (c : tie.After-in-bounds Inv-loop μ-loop) (b : Bool) → c .in-bounds .result ≡ b → inBounds (T (c .before .before .before .before .before) .counters) ≡ b
+bounds-are c b e = sym (c .in-bounds .ensures) ∙ e
+
+returns-3 : tie.Need-returns-3 Inv-loop μ-loop
+unfolding sound
+returns-3 c =
+    let few = c .before .before .before in
+    rw (ranged (few .before), le-leb _ _ (few .if2 .left), bounds-are (c .before) false (not-true _ (c .if3 .taken)))
+
 loop-holds : tie.Need-loop-holds Inv-loop μ-loop
 unfolding allBelow total
-loop-holds c = (search needs, search needs, range-high _ _ (ranged (c .before)), refl, refl, search needs)
+loop-holds c = (search needs, search needs, range-high _ _ (ranged (c .before .before .before .before)), refl, refl, search needs)
 
 mul-weight : tie.Need-mul-weight Inv-loop μ-loop
 mul-weight c = search needs
@@ -82,36 +99,36 @@ shared-slice-read-weight c = search needs
 fails : (l : tie.In-loop Inv-loop μ-loop) → serverSound (TL (l .before)) (l .before .loop .i) ≡ false → sound (TL (l .before)) ≡ false
 fails l e = server-unsound (TL (l .before)) (l .before .loop .i) (l .loop-test .taken) e
 
-returns-3 : tie.Need-returns-3 Inv-loop μ-loop
-unfolding serverSound
-returns-3 c = sym (fails (c .before .before) (rw (lt-leb _ _ (c .if3 .taken))))
-
-mul-if4 : tie.Need-mul-if4 Inv-loop μ-loop
-mul-if4 c = search needs
-
-shared-slice-read-if4 : tie.Need-shared-slice-read-if4 Inv-loop μ-loop
-shared-slice-read-if4 c = search needs
-
 returns-4 : tie.Need-returns-4 Inv-loop μ-loop
 unfolding serverSound
-returns-4 c =
+returns-4 c = sym (fails (c .before .before) (rw (lt-leb _ _ (c .if4 .taken))))
+
+mul-if5 : tie.Need-mul-if5 Inv-loop μ-loop
+mul-if5 c = search needs
+
+shared-slice-read-if5 : tie.Need-shared-slice-read-if5 Inv-loop μ-loop
+shared-slice-read-if5 c = search needs
+
+returns-5 : tie.Need-returns-5 Inv-loop μ-loop
+unfolding serverSound
+returns-5 c =
     let four = c .before .before in
-    sym (fails (four .before .before) (rw (le-leb _ _ (four .if3 .left), lt-leb _ _ (c .if4 .taken))))
+    sym (fails (four .before .before) (rw (le-leb _ _ (four .if4 .left), lt-leb _ _ (c .if5 .taken))))
 
 add-sum : tie.Need-add-sum Inv-loop μ-loop
 add-sum c = search needs
 
-mul-t27 : tie.Need-mul-t27 Inv-loop μ-loop
-mul-t27 c = search needs
+mul-t29 : tie.Need-mul-t29 Inv-loop μ-loop
+mul-t29 c = search needs
 
-shared-slice-read-t29 : tie.Need-shared-slice-read-t29 Inv-loop μ-loop
-shared-slice-read-t29 c = search needs
+shared-slice-read-t31 : tie.Need-shared-slice-read-t31 Inv-loop μ-loop
+shared-slice-read-t31 c = search needs
 
-mul-t32 : tie.Need-mul-t32 Inv-loop μ-loop
-mul-t32 c = search needs
+mul-t34 : tie.Need-mul-t34 Inv-loop μ-loop
+mul-t34 c = search needs
 
-shared-slice-read-t34 : tie.Need-shared-slice-read-t34 Inv-loop μ-loop
-shared-slice-read-t34 c = search needs
+shared-slice-read-t36 : tie.Need-shared-slice-read-t36 Inv-loop μ-loop
+shared-slice-read-t36 c = search needs
 
 read-sound-requires : tie.Need-read-sound-requires Inv-loop μ-loop
 read-sound-requires c κs = search needs
@@ -126,10 +143,10 @@ server-here c =
     let l = L c .before in
     let five = c .before .before .before in
     let four = five .before .before in
-    tested (TL l) (l .loop .i) (l .loop .sum) _ (c .read-sound .result) (four .if3 .left) (five .if4 .left) (l .loop .inv .4) refl (c .read-sound .ensures)
+    tested (TL l) (l .loop .i) (l .loop .sum) _ (c .read-sound .result) (four .if4 .left) (five .if5 .left) (l .loop .inv .4) refl (c .read-sound .ensures)
 
-returns-5 : tie.Need-returns-5 Inv-loop μ-loop
-returns-5 c = sym (fails (L (c .before)) (server-here (c .before) ∙ not-true _ (c .if5 .taken)))
+returns-6 : tie.Need-returns-6 Inv-loop μ-loop
+returns-6 c = sym (fails (L (c .before)) (server-here (c .before) ∙ not-true _ (c .if6 .taken)))
 
 add-i : tie.Need-add-i Inv-loop μ-loop
 add-i c = search needs
@@ -143,16 +160,16 @@ loop-again c =
       search needs,
       search needs,
       search needs,
-      allBelow-more (serverSound (TL l)) (l .loop .i) (l .loop .inv .3) (server-here (c .before) ∙ not-false _ (c .if5 .left)),
+      allBelow-more (serverSound (TL l)) (l .loop .i) (l .loop .inv .3) (server-here (c .before) ∙ not-false _ (c .if6 .left)),
       rw total-more (cc),
       search needs,
     )
 
-returns-6 : tie.Need-returns-6 Inv-loop μ-loop
-returns-6 c =
+returns-7 : tie.Need-returns-7 Inv-loop μ-loop
+returns-7 c =
     let l = c .before in
     let e : l .loop .i ≡ TL l .count = omega arith in
-    sym (tested-sound (TL l) (ranged (l .before .before)) (l .loop .inv .1) (rw e at (l .loop .inv .3)))
+    sym (tested-sound (TL l) (ranged (l .before .before .before .before .before)) (l .loop .inv .1) (bounds-are (l .before .before) true (not-false _ (l .before .if3 .left))) (rw e at (l .loop .inv .3)))
 
 pub is-sound-spec : {M : Type 1} → statement M
 is-sound-spec =
@@ -167,21 +184,24 @@ is-sound-spec =
     in-range-requires
     returns
     returns-2
+    array-copy-out-in-bounds
+    in-bounds-requires
+    returns-3
     loop-holds
     mul-weight
     shared-slice-read-weight
-    returns-3
-    mul-if4
-    shared-slice-read-if4
     returns-4
-    add-sum
-    mul-t27
-    shared-slice-read-t29
-    mul-t32
-    shared-slice-read-t34
-    read-sound-requires
+    mul-if5
+    shared-slice-read-if5
     returns-5
+    add-sum
+    mul-t29
+    shared-slice-read-t31
+    mul-t34
+    shared-slice-read-t36
+    read-sound-requires
+    returns-6
     add-i
     loop-less
     loop-again
-    returns-6)
+    returns-7)

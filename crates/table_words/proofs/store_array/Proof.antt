@@ -10,10 +10,10 @@ use Rattle.table_words.proofs.store_array.Statement.{statement}
 use Rattle.table_words.proofs.store_array.Tie as tie
 
 abbrev Inv-loop : tie.InvT-loop
-Inv-loop words₀ from array k₀ words k = (k ≤ 256) × (words ≡ paste words₀ from array k) × (length words ≡ length words₀)
+Inv-loop words₀ from array k₀ words k = (k ≤ length array) × (words ≡ paste words₀ from array k) × (length words ≡ length words₀)
 
 abbrev μ-loop : tie.MeasureT-loop
-μ-loop words₀ from array k₀ words k = 256 - k
+μ-loop words₀ from array k₀ words k = length array - k
 
 loop-holds : tie.Need-loop-holds Inv-loop μ-loop
 loop-holds c =
@@ -23,8 +23,8 @@ loop-holds c =
 mul-words : tie.Need-mul-words Inv-loop μ-loop
 mul-words c = search needs
 
-element-copy-out-words : tie.Need-element-copy-out-words Inv-loop μ-loop
-element-copy-out-words c = search needs
+shared-slice-read-words : tie.Need-shared-slice-read-words Inv-loop μ-loop
+shared-slice-read-words c = search needs
 
 add-words : tie.Need-add-words Inv-loop μ-loop
 add-words c = search needs
@@ -55,7 +55,7 @@ same-length c = search needs
 
 returns : tie.Need-returns Inv-loop μ-loop
 returns c =
-    let e : c .before .loop .k ≡ 256 = omega arith in
+    let e : c .before .loop .k ≡ length (c .before .before .args .array .now) = omega arith in
     rw e at (c .before .loop .inv .1)
 
 pub store-array-spec : {M : Type 1} → statement M
@@ -66,7 +66,7 @@ store-array-spec =
     μ-loop
     loop-holds
     mul-words
-    element-copy-out-words
+    shared-slice-read-words
     add-words
     mul-words-2
     slice-write-words

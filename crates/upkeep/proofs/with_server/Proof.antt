@@ -31,6 +31,7 @@ made : (t : Table) (weight sum : ℕ) (write : Fraction) → t .count < length (
     (set (t .used) (t .count) 0)
     (set (t .numerators) (t .count) (write .num))
     (set (t .denominators) (t .count) (write .den))
+    (t .counters)
     ≡ withServer t weight
 unfolding withServer
 made t weight sum write l s e = rw (new-write (t .weights) (t .count) weight l, ← s, ← e, add-one)

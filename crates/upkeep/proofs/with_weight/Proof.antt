@@ -47,7 +47,7 @@ element-copy-out-w c = search needs
 abbrev T₀ : tie.At-loop Inv-loop μ-loop → Table
 T₀ l =
     let a = l .before .args in
-    tableBy (shapeOf (a .table)) (set (a .table .weights) (a .server) (a .weight)) (a .table .used) (a .table .numerators) (a .table .denominators)
+    tableBy (shapeOf (a .table)) (set (a .table .weights) (a .server) (a .weight)) (a .table .used) (a .table .numerators) (a .table .denominators) (a .table .counters)
 
 -- the weight that the loop stands at
 light-here : (c : tie.In-loop Inv-loop μ-loop) → nth (c .before .loop .next .weights) (c .before .loop .i) ≤ 65536

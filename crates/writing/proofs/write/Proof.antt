@@ -29,7 +29,7 @@ abbrev W : tie.After-slice-known2 → tie.After-write-in
 W c = c .before .before
 
 abbrev S : tie.After-write-in → tie.Start
-S c = c .before .before .before .before .before .before .before .before .before .before .before .before .before .before
+S c = c .before .before .before .before .before .before .before .before .before .before .before .before .before .before .before .before
 
 abbrev T : tie.After-write-in → Table
 T c = S c .args .t1

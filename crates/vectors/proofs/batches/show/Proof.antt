@@ -8,9 +8,6 @@ use Rattle.vectors.proofs.batches.show.Tie as tie
 longest-requires : tie.Need-longest-requires
 longest-requires c κs = search needs
 
-print-number-requires : tie.Need-print-number-requires
-print-number-requires c κs = search needs
-
 returns : tie.Need-returns
 returns c = search needs
 
@@ -56,21 +53,17 @@ print-three-requires c κs = search needs
 part-requires : tie.Need-part-requires
 part-requires c κs = search needs
 
-print-number-requires-2 : tie.Need-print-number-requires-2
-print-number-requires-2 c κs = search needs
+print-number-requires : tie.Need-print-number-requires
+print-number-requires c κs = search needs
 
 returns-2 : tie.Need-returns-2
 returns-2 c = search needs
-
-returns-3 : tie.Need-returns-3
-returns-3 c = search needs
 
 pub show-spec : {M : Type 1} → statement M
 show-spec =
     tie.close
     (tie.spec
     longest-requires
-    print-number-requires
     returns
     array-read-i
     cast-i
@@ -86,6 +79,5 @@ show-spec =
     element-copy-out-print-three-3
     print-three-requires
     part-requires
-    print-number-requires-2
-    returns-2
-    returns-3)
+    print-number-requires
+    returns-2)

@@ -1,0 +1,55 @@
+-- Shelves opened, club by club (document 02, item 5): what the counters are after every list of calls, what a refused call changes, and
+-- that no call answers by a counter.
+use Prim.Native.Nat.{ℕ, _+_, _<_, min}
+use mathlib.Core.Bool.{true, cond}
+use mathlib.Core.Path.{_≡_}
+use mathlib.Core.Logic.{_≢_}
+use mathlib.Core.List.{List, [], _∷_}
+use lib.Dec.{eqb}
+use Rattle.limits.specs.Limits.{tenants, maxCounter}
+use Rattle.table.specs.Parts.{withCounters, openedOf}
+use Rattle.table.specs.Sound.{sound}
+use Rattle.replies.specs.declared.Reply.{Reply}
+use Rattle.lookup.specs.Lookup.{lookupReply}
+use Rattle.batch_answer.specs.Answer.{openedIn}
+use Rattle.batch.specs.Batch.{batchReply}
+use Rattle.history.specs.Call.{Call, addServer, reweight, write, delete, lookup, batch}
+use Rattle.history.specs.Machine.{State, reply, next, after, replies, startState}
+
+-- the opened counts that a call answers to a tenant: those of its lookups, and those of the ids of its batches
+unfoldable pub openedTo : ℕ → State → Call → ℕ
+openedTo tenant S (addServer weight) = 0
+openedTo tenant S (reweight server weight) = 0
+openedTo tenant S (write caller id value) = 0
+openedTo tenant S (delete caller id) = 0
+openedTo tenant S (lookup caller id) = cond (eqb caller tenant) (lookupReply (S .table) (S .medium) caller id .opened) 0
+openedTo tenant S (batch caller ids) = cond (eqb caller tenant) (openedIn (batchReply (S .table) (S .medium) caller ids)) 0
+
+-- and their sum over a list of calls, run from a state
+unfoldable pub openedBy : ℕ → State → List Call → ℕ
+openedBy tenant S [] = 0
+openedBy tenant S (c ∷ calls) = openedTo tenant S c + openedBy tenant (next S c) calls
+
+-- after a list of calls on a fresh table, over a medium of any words, a tenant's counter is the smaller of its bound and that sum
+pub record Counters (capacity salt : ℕ) (m : List ℕ) (calls : List Call) : Type 0 where
+  pub counter : (tenant : ℕ) → tenant < tenants
+      → openedOf (after (startState capacity salt m) calls .table) tenant ≡ min maxCounter (openedBy tenant (startState capacity salt m) calls)
+
+-- a refused call leaves medium and table as lent, but for the counters where it is a lookup that opened servers
+pub record Refused (S : State) (c : Call) : Type 0 where
+  pub medium : next S c .medium ≡ S .medium
+  pub table : reply S c .opened ≡ 0 → next S c .table ≡ S .table
+  pub others : withCounters (next S c .table) (S .table .counters) ≡ S .table
+
+-- two states that differ in the counters alone
+pub record Apart (S T : State) : Type 0 where
+  pub table : T .table ≡ withCounters (S .table) (T .table .counters)
+  pub medium : T .medium ≡ S .medium
+
+-- where both tables are sound, a list of calls gets the same replies from both, a batch after it the same answer, and they differ in
+-- the counters alone again
+pub record Unread (S T : State) (calls : List Call) : Type 0 where
+  pub same : replies T calls ≡ replies S calls
+  pub batches : (tenant : ℕ) (ids : List ℕ)
+      → batchReply (after T calls .table) (after T calls .medium) tenant ids ≡ batchReply (after S calls .table) (after S calls .medium) tenant ids
+  pub apart : Apart (after S calls) (after T calls)
