@@ -4,17 +4,20 @@
  * The archive is two runs of 32-bit words that the caller owns and lends to each call:
  *
  *   table   ARCHIVE_TABLE_WORDS words. It says which servers there are, their weights and how many entries of each are
- *           used, and keeps the archive's salt. archive_start makes one; the caller keeps it from call to call, and may store it
- *           and lend it again later.
+ *           used, keeps the archive's salt, and counts for each tenant the servers that its lookups opened. archive_start makes
+ *           one; the caller keeps it from call to call, and may store it and lend it again later.
  *   medium  the discs, as one run of words. Server k has ARCHIVE_SERVER_WORDS(capacity) words from
  *           k * ARCHIVE_SERVER_WORDS(capacity) on. Before its server is added every word must be ARCHIVE_BLANK.
  *
  * No function allocates, keeps a pointer, or touches anything but the words it is lent. A run is passed as a pointer and the
  * number of its words; the pointer must not be null, even for no words. Runs that a call writes to must not overlap others.
- * Two calls at the same time must not share a table or a medium that one of them writes to.
+ * Two calls at the same time must not share a table or a medium that one of them writes to. Lookups and batches write to the
+ * table, since they count there what they open: up to version 3 two of them could share a table at the same time, and from
+ * version 4 on they must not. They only read the medium, and may share it.
  *
  * Nothing here needs to be checked beforehand: every function ends for every table, medium and argument, and refuses by a
- * number what it cannot do. A refused call leaves table and medium as they were.
+ * number what it cannot do. A refused call leaves table and medium as they were, with one exception: a lookup that opened servers
+ * and then was refused, by ARCHIVE_NOT_FOUND or ARCHIVE_CORRUPT, is counted in the table.
  */
 #ifndef ARCHIVE_H
 #define ARCHIVE_H
@@ -31,12 +34,14 @@ extern "C" {
  * number of a call or of a refusal never gets another meaning. Version 2 has tenants: word 1 of a call, an argument of
  * archive_lookup_batch, and refusal 11. Version 3 has a salt: an argument of archive_start, archive_replay and archive_picks, and
  * word 1 of the table. Version 2 filed as salt 0 does: its tables are those of version 3 once a 0 is put in after their first
- * word.
+ * word. Version 4 has counters: eight words more at the end of the table, which lookups and archive_lookup_batch change, so that
+ * the latter takes a table that it may write to. The tables of version 3 are those of version 4 once eight zeros are put after
+ * their last word.
  */
-#define ARCHIVE_ABI 3u
+#define ARCHIVE_ABI 4u
 
 /* How many words a table, a call and a reply have. */
-#define ARCHIVE_TABLE_WORDS 1027u
+#define ARCHIVE_TABLE_WORDS 1035u
 #define ARCHIVE_CALL_WORDS 8u
 #define ARCHIVE_REPLY_WORDS 8u
 
@@ -61,6 +66,16 @@ extern "C" {
 #define ARCHIVE_TENANT_OF(id) ((uint32_t)(id) >> 27)
 
 /*
+ * The table counts for each tenant how many servers its lookups opened: word ARCHIVE_TABLE_COUNTERS + t is the counter of tenant
+ * t, and the caller may read it between calls. A counter begins at 0. Each lookup adds what its reply has as OPENED to the
+ * counter of the tenant that makes it, and a batch adds what each of its replies has; no other call changes a counter. A counter
+ * stops at ARCHIVE_MAX_COUNTER and stays there. No call leaves one above it, and a table that has one is unsound. In a sound
+ * table the counters have no bearing on any reply, on the medium or on the other words of the table.
+ */
+#define ARCHIVE_TABLE_COUNTERS 1027u
+#define ARCHIVE_MAX_COUNTER 1073741823u
+
+/*
  * A call is eight words. The number, word 0, says which of the others count; those that do not count are not read.
  *
  *   number               TENANT   SUBJECT   AMOUNT   what it does, and what its reply has
@@ -70,7 +85,8 @@ extern "C" {
  *                                                    the id it marked as replaced
  *   ARCHIVE_DELETE       tenant   id                 deletes; INVALIDATED is how many entries it marked as deleted
  *   ARCHIVE_LOOKUP       tenant   id                 looks up; VALUE is the value last written, OPENED how many servers were
- *                                                    opened
+ *                                                    opened, which the tenant's counter grows by, also where the lookup is
+ *                                                    refused after it opened them
  *
  * The other words are for later calls. A number that is no call's gets ARCHIVE_NO_CALL and changes nothing.
  */
@@ -121,7 +137,7 @@ uint32_t archive_abi(void);
 size_t archive_table_words(void);
 
 /*
- * Makes a table of no server, whose servers will have `capacity` entries each.
+ * Makes a table of no server, whose servers will have `capacity` entries each, and whose counters are 0.
  * The salt is a number of the caller's choice, below ARCHIVE_CONTENT_RANGE, that is added to every id where the rule says which
  * servers it may go to. Two archives with different salts file the same ids differently, so that the ids that crowd a server of
  * one do not all crowd the same server of the other; salts drawn at random serve best. 0 is the plain rule. The table keeps the
@@ -145,10 +161,12 @@ uint32_t archive_call(uint32_t *table, size_t table_words,
  * replies  eight words for each id, in the order of the ids: what ARCHIVE_LOOKUP alone would reply to this tenant
  * order    one word for each id: the positions in the list, in the order in which they are found, server by server
  * mounts   one word: how many different servers were opened
+ * The table is left as those lookups, made one after another, would leave it: the tenant's counter grows by the sum of what the
+ * replies have as OPENED, not by the mounts, and stops at ARCHIVE_MAX_COUNTER. No other word of it is changed.
  * Answers ARCHIVE_ACCEPTED, whatever the ids' own refusals are; ARCHIVE_OUT_OF_RANGE, or ARCHIVE_UNSOUND_TABLE, for a list of
- * more than 256 ids; or ARCHIVE_SHORT. Unless it is accepted, no word is changed.
+ * more than 256 ids; or ARCHIVE_SHORT. Unless it is accepted, no word of any run is changed.
  */
-uint32_t archive_lookup_batch(const uint32_t *table, size_t table_words,
+uint32_t archive_lookup_batch(uint32_t *table, size_t table_words,
                               const uint32_t *medium, size_t medium_words,
                               uint32_t tenant,
                               const uint32_t *ids, size_t ids_words,

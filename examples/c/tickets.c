@@ -1,4 +1,7 @@
-/* Starts an archive of three servers with a salt of its own, writes tickets of two tenants, looks them up, and prints what it did. */
+/*
+ * Starts an archive of three servers with a salt of its own, writes tickets of two tenants, looks them up, and prints what it did
+ * and how many servers it opened for each tenant.
+ */
 #include <stdio.h>
 #include <stdlib.h>
 #include "archive.h"
@@ -44,6 +47,12 @@ static void look_up(uint32_t tenant, uint32_t id)
         printf("ticket %u is worth %u, %u opened\n", (unsigned)id, (unsigned)reply[ARCHIVE_REPLY_VALUE], (unsigned)reply[ARCHIVE_REPLY_OPENED]);
 }
 
+/* What the lookups of a tenant opened in all, by the table. */
+static void print_counter(uint32_t tenant)
+{
+    printf("tenant %u: %u opened in all\n", (unsigned)tenant, (unsigned)table[ARCHIVE_TABLE_COUNTERS + tenant]);
+}
+
 int main(void)
 {
     if (archive_abi() != ARCHIVE_ABI || archive_start(CAPACITY, SALT, table, ARCHIVE_TABLE_WORDS) != ARCHIVE_ACCEPTED)
@@ -61,5 +70,7 @@ int main(void)
     look_up(4, 626627286);
     call(ARCHIVE_DELETE, 0, 1002, 0);
     look_up(0, 1002);
+    print_counter(0);
+    print_counter(4);
     return 0;
 }

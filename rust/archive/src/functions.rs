@@ -16,7 +16,7 @@ extern "C" {
         reply_words: usize,
     ) -> u32;
     fn archive_lookup_batch(
-        table: *const u32,
+        table: *mut u32,
         table_words: usize,
         medium: *const u32,
         medium_words: usize,
@@ -95,9 +95,10 @@ pub fn call(table: &mut [u32], medium: &mut [u32], call: &[u32], reply: &mut [u3
     }
 }
 
-/// Looks many ids up together for a tenant; answers the refusal number of the list, or 0.
+/// Looks many ids up together for a tenant, whose counter in the table grows; answers the refusal
+/// number of the list, or 0.
 pub fn lookup_batch(
-    table: &[u32],
+    table: &mut [u32],
     medium: &[u32],
     tenant: u32,
     ids: &[u32],
@@ -107,7 +108,7 @@ pub fn lookup_batch(
 ) -> u32 {
     unsafe {
         archive_lookup_batch(
-            table.as_ptr(),
+            table.as_mut_ptr(),
             table.len(),
             medium.as_ptr(),
             medium.len(),

@@ -18,6 +18,9 @@
 //!
 //! An archive has a salt below [`CONTENT_RANGE`], here 12345: archives with different salts file the same ids differently.
 //! 0 is the plain rule.
+//!
+//! An archive counts the servers that were opened for each tenant's lookups ([`Archive::counter`]), so that a lookup changes the
+//! table, also where it is refused after it opened servers.
 
 pub mod functions;
 mod words;
@@ -168,6 +171,13 @@ impl<'m> Archive<'m> {
         &self.table
     }
 
+    /// How many servers were opened for a tenant's lookups and batches, up to [`MAX_COUNTER`], where it stops; none for a number
+    /// that is no tenant's.
+    pub fn counter(&self, tenant: u32) -> Option<u32> {
+        let counters = &self.table[TABLE_COUNTERS..][..TENANTS as usize];
+        counters.get(tenant as usize).copied()
+    }
+
     /// The words of its medium.
     pub fn medium(&self) -> &[u32] {
         self.medium
@@ -218,18 +228,19 @@ impl<'m> Archive<'m> {
         Ok(reply[reply::INVALIDATED])
     }
 
-    /// Looks a tenant's id up.
+    /// Looks a tenant's id up, and counts the servers that it opened, found or not.
     pub fn lookup(&mut self, tenant: u32, id: u32) -> Result<Found, Missed> {
         looked_up(&self.run(call::LOOKUP, tenant, id, 0))
     }
 
-    /// Looks up to 256 ids up together for a tenant. An id of another tenant gets its own refusal.
-    pub fn lookup_batch(&self, tenant: u32, ids: &[u32]) -> Result<Batch, Refusal> {
+    /// Looks up to 256 ids up together for a tenant, and counts what a lookup of each alone would count. An id of another tenant
+    /// gets its own refusal.
+    pub fn lookup_batch(&mut self, tenant: u32, ids: &[u32]) -> Result<Batch, Refusal> {
         let mut replies = vec![0; REPLY_WORDS * ids.len()];
         let mut order = vec![0; ids.len()];
         let mut mounts = [0];
         told(functions::lookup_batch(
-            &self.table,
+            &mut self.table,
             self.medium,
             tenant,
             ids,

@@ -1,10 +1,10 @@
 //! Calls and replies as words, as include/archive.h has them.
 
 /// The version of the interface that this crate is written for; `functions::abi` answers the library's own.
-pub const ABI: u32 = 3;
+pub const ABI: u32 = 4;
 
 /// How many words a table has.
-pub const TABLE_WORDS: usize = 1027;
+pub const TABLE_WORDS: usize = 1035;
 
 /// How many words a call has.
 pub const CALL_WORDS: usize = 8;
@@ -39,6 +39,12 @@ pub const TENANTS: u32 = 8;
 pub const fn tenant_of(id: u32) -> u32 {
     id >> 27
 }
+
+/// Which word of a table is the counter of tenant 0; those of the others follow.
+pub const TABLE_COUNTERS: usize = 1027;
+
+/// Where a tenant's counter stops.
+pub const MAX_COUNTER: u32 = CONTENT_RANGE - 1;
 
 /// The refusal number of a call that was carried out.
 pub const ACCEPTED: u32 = 0;

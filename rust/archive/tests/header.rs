@@ -28,7 +28,7 @@ fn defined() -> Vec<(&'static str, u64)> {
 }
 
 /// The same by this crate, in the order of the header.
-const OURS: [(&str, u64); 38] = [
+const OURS: [(&str, u64); 40] = [
     ("ABI", ABI as u64),
     ("TABLE_WORDS", TABLE_WORDS as u64),
     ("CALL_WORDS", CALL_WORDS as u64),
@@ -39,6 +39,8 @@ const OURS: [(&str, u64); 38] = [
     ("MAX_IDS", MAX_IDS as u64),
     ("CONTENT_RANGE", CONTENT_RANGE as u64),
     ("TENANTS", TENANTS as u64),
+    ("TABLE_COUNTERS", TABLE_COUNTERS as u64),
+    ("MAX_COUNTER", MAX_COUNTER as u64),
     ("ADD_SERVER", call::ADD_SERVER as u64),
     ("REWEIGHT", call::REWEIGHT as u64),
     ("WRITE", call::WRITE as u64),
