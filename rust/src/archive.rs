@@ -1,5 +1,6 @@
-//! The archive in ordinary Rust, from document 01 and the second and fourth requests of document
-//! 02: a mutable table and a lent medium. A refused call changes neither.
+//! The archive in ordinary Rust, from document 01 and the second, fourth and fifth requests of
+//! document 02: a mutable table and a lent medium. A refused call changes neither, but for the
+//! counter of a tenant whose refused lookup opened servers.
 
 use crate::placement::{draw, share, write_server, Fraction};
 use crate::placement::{MAX_CAPACITY, MAX_SERVERS, SALT_RANGE};
@@ -8,6 +9,10 @@ pub const BLANK: u32 = u32::MAX;
 pub const CONTENT_RANGE: u32 = 1 << 30;
 pub const TENANTS: u32 = 8;
 pub const MAX_DENOMINATOR: u32 = 1 << 24;
+
+/// Where a tenant's counter stops.
+pub const MAX_COUNTER: u32 = (1 << 30) - 1;
+
 const VALUE_TAG: u32 = 1;
 const MARK_TAG: u32 = 2;
 
@@ -90,6 +95,8 @@ pub struct Table {
     pub used: [u32; MAX_SERVERS],
     pub read_numerators: [u32; MAX_SERVERS],
     pub read_denominators: [u32; MAX_SERVERS],
+    /// How many servers were opened for each tenant.
+    pub counters: [u32; TENANTS as usize],
 }
 
 impl Table {
@@ -102,6 +109,7 @@ impl Table {
         used: [0; MAX_SERVERS],
         read_numerators: [0; MAX_SERVERS],
         read_denominators: [0; MAX_SERVERS],
+        counters: [0; TENANTS as usize],
     };
 
     pub fn start(capacity: u32, salt: u32) -> Result<Table, Refusal> {
@@ -143,7 +151,7 @@ impl Table {
                 return false;
             }
         }
-        true
+        self.counters.iter().all(|&counter| counter <= MAX_COUNTER)
     }
 
     pub fn add_server(&mut self, medium: &[u32], weight: u32) -> Result<u32, Refusal> {
@@ -208,23 +216,35 @@ impl Table {
         }
     }
 
-    pub fn lookup(&self, medium: &[u32], tenant: u32, id: u32) -> Result<Found, Missed> {
+    /// Counts the servers that it opened, found or not.
+    pub fn lookup(&mut self, medium: &[u32], tenant: u32, id: u32) -> Result<Found, Missed> {
         self.refuse_asked(medium, tenant, id, false)?;
         let mut opened = 0;
+        let mut found = None;
         for server in (0..self.count as usize).rev() {
             if !self.is_readable(server, id) {
                 continue;
             }
             opened += 1;
             let entries = self.entries(medium, server);
-            if let Some(entry) = entries.iter().rev().find(|entry| is_live(entry, id)) {
-                return value_of(entry[1], opened);
+            found = entries.iter().rev().find(|entry| is_live(entry, id));
+            if found.is_some() {
+                break;
             }
         }
-        Err(Missed {
-            refusal: Refusal::Absent,
-            opened,
-        })
+        self.count_opened(tenant, opened);
+        match found {
+            Some(entry) => value_of(entry[1], opened),
+            None => Err(Missed {
+                refusal: Refusal::Absent,
+                opened,
+            }),
+        }
+    }
+
+    fn count_opened(&mut self, tenant: u32, opened: u32) {
+        let counter = &mut self.counters[tenant as usize];
+        *counter = (*counter + opened).min(MAX_COUNTER);
     }
 
     /// The servers that a lookup opens, in the order of opening; none where it is refused before.
@@ -248,14 +268,15 @@ impl Table {
     pub fn described(&self) -> String {
         let count = (self.count as usize).min(MAX_SERVERS);
         format!(
-            "capacity {}, salt {}, count {}\nweights {:?}\nused {:?}\nReadP {:?} over {:?}",
+            "capacity {}, salt {}, count {}\nweights {:?}\nused {:?}\nReadP {:?} over {:?}\ncounters {:?}",
             self.capacity,
             self.salt,
             self.count,
             &self.weights[..count],
             &self.used[..count],
             &self.read_numerators[..count],
-            &self.read_denominators[..count]
+            &self.read_denominators[..count],
+            self.counters
         )
     }
 

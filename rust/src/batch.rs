@@ -1,5 +1,6 @@
-//! A batch of lookups in ordinary Rust, from the first two requests of document 02: each id is
-//! looked up alone, and the mounts and the order of finding come from the servers that it opens.
+//! A batch of lookups in ordinary Rust, from the first two requests and the fifth of document 02:
+//! each id is looked up alone, which counts what it opens, and the mounts and the order of finding
+//! come from the servers that it opens.
 
 use std::collections::BTreeSet;
 
@@ -20,7 +21,12 @@ pub struct Batch {
 
 impl Table {
     /// Only a list that is too long is refused as a whole, by the lowest number that applies.
-    pub fn lookup_batch(&self, medium: &[u32], tenant: u32, ids: &[u32]) -> Result<Batch, Refusal> {
+    pub fn lookup_batch(
+        &mut self,
+        medium: &[u32],
+        tenant: u32,
+        ids: &[u32],
+    ) -> Result<Batch, Refusal> {
         if ids.len() > MAX_IDS {
             return Err(match self.is_sound() {
                 true => Refusal::OutOfRange,
@@ -28,8 +34,8 @@ impl Table {
             });
         }
         let reply = |&id: &u32| self.run_lookup(medium, tenant, id);
-        let opens = |&id: &u32| self.opens(medium, tenant, id);
         let replies = ids.iter().map(reply).collect();
+        let opens = |&id: &u32| self.opens(medium, tenant, id);
         let opened: Vec<Vec<usize>> = ids.iter().map(opens).collect();
         let mut order: Vec<usize> = (0..ids.len()).collect();
         // This sort keeps equals in the order of their positions.
@@ -50,7 +56,7 @@ fn rank(end: Option<&usize>) -> usize {
 
 /// The Rust implementation behind the interface of the proved `lookup_batch`.
 pub fn lookup_batch(
-    table: &[u32],
+    table: &mut [u32],
     medium: &[u32],
     tenant: u32,
     ids: &[u32],
@@ -59,16 +65,18 @@ pub fn lookup_batch(
     mounts: &mut [u32],
 ) -> u32 {
     let n = ids.len();
-    let Some(words) = table.first_chunk() else {
+    let Some(table_words) = table.first_chunk_mut() else {
         return SHORT;
     };
     if replies.len() < REPLY_WORDS * n || order.len() < n || mounts.is_empty() {
         return SHORT;
     }
-    let batch = match Table::from_words(words).lookup_batch(medium, tenant, ids) {
+    let mut table = Table::from_words(table_words);
+    let batch = match table.lookup_batch(medium, tenant, ids) {
         Ok(batch) => batch,
         Err(refusal) => return refusal as u32,
     };
+    table.store(table_words);
     for (words, reply) in replies.chunks_exact_mut(REPLY_WORDS).zip(&batch.replies) {
         words.copy_from_slice(&reply.words());
     }

@@ -1,13 +1,15 @@
-//! One batch, run on the proved code and on the Rust implementation. Every word is compared.
+//! One batch, run on the proved code and on the Rust implementation, and against its lookups made one
+//! after another. Every word is compared.
 
 use crate::archive::Table;
 use crate::batch;
-use crate::calls::{Reply, REFUSAL, REPLY_WORDS};
-use crate::differ::{compare_words, Difference, Lent, Tally, UNSTORED};
+use crate::calls::{encode, Call, Reply, REFUSAL, REPLY_WORDS};
+use crate::counters::told_by_batch;
+use crate::differ::{compare_told, compare_words, Difference, Lent, Tally, UNREAD, UNSTORED};
 use ticket_archive::{functions as proved, Archive};
 
 /// Table, medium, tenant, ids, replies, order, mounts; answers the number of the list.
-type Lookups = fn(&[u32], &[u32], u32, &[u32], &mut [u32], &mut [u32], &mut [u32]) -> u32;
+type Lookups = fn(&mut [u32], &[u32], u32, &[u32], &mut [u32], &mut [u32], &mut [u32]) -> u32;
 
 /// How many words are lent for the answer.
 #[derive(Clone, Copy, Debug)]
@@ -37,11 +39,11 @@ struct Answered {
     mounts: Vec<u32>,
 }
 
-fn answered(run: Lookups, lent: [Vec<u32>; 3], tenant: u32, room: Room) -> Answered {
+fn answered(run: Lookups, mut lent: [Vec<u32>; 3], tenant: u32, room: Room) -> Answered {
     let mut replies = vec![UNSTORED; room.replies];
     let mut order = vec![UNSTORED; room.order];
     let mut mounts = vec![UNSTORED; room.mounts];
-    let [table, medium, ids] = &lent;
+    let [table, medium, ids] = &mut lent;
     let number = run(
         table,
         medium,
@@ -65,7 +67,7 @@ fn compare_answers(proved: &Answered, rust: &Answered) -> Result<(), Difference>
     compare_words("replies", &proved.replies, &rust.replies)?;
     compare_words("order", &proved.order, &rust.order)?;
     compare_words("mounts", &proved.mounts, &rust.mounts)?;
-    let names = ["table lent", "medium lent", "ids lent"];
+    let names = ["table", "medium lent", "ids lent"];
     for (at, name) in names.into_iter().enumerate() {
         compare_words(name, &proved.lent[at], &rust.lent[at])?;
     }
@@ -74,7 +76,7 @@ fn compare_answers(proved: &Answered, rust: &Answered) -> Result<(), Difference>
 
 /// The same by the method of the safe archive, whose results are turned into words again.
 fn by_method(
-    table: &[u32],
+    table: &mut [u32],
     medium: &[u32],
     tenant: u32,
     ids: &[u32],
@@ -82,9 +84,12 @@ fn by_method(
     order: &mut [u32],
     mounts: &mut [u32],
 ) -> u32 {
-    let table = *table.first_chunk().expect("a whole table");
+    let words = table.first_chunk_mut().expect("a whole table");
     let mut medium = medium.to_vec();
-    let batch = match Archive::from_words(table, &mut medium).lookup_batch(tenant, ids) {
+    let mut archive = Archive::from_words(*words, &mut medium);
+    let answer = archive.lookup_batch(tenant, ids);
+    *words = *archive.table();
+    let batch = match answer {
         Ok(batch) => batch,
         Err(refusal) => return refusal as u32,
     };
@@ -98,9 +103,10 @@ fn by_method(
 }
 
 impl Lent {
-    /// Looks the ids up for a tenant on both sides, with so much room for the answer.
+    /// Looks the ids up for a tenant on both sides, with so much room for the answer, and keeps the
+    /// table that both left.
     pub fn run_batch(
-        &self,
+        &mut self,
         tenant: u32,
         ids: &[u32],
         room: Room,
@@ -119,7 +125,33 @@ impl Lent {
                 _ => compare_answers(&answered(by_method), &rust)
                     .map_err(|text| format!("by the method: {text}")),
             })
-            .map_err(|text| self.described(text, tenant, ids, room))
+            .and_then(|()| match proved.number {
+                0 => self.compare_single(tenant, ids, &proved),
+                _ => compare_words("table of a refused batch", &proved.lent[0], &self.table),
+            })
+            .map_err(|text| self.described(text, tenant, ids, room))?;
+        let [table, ..] = proved.lent;
+        self.table = table;
+        Ok(())
+    }
+
+    /// An accepted batch replies and leaves what its lookups do, made one after another by the
+    /// proved code, and the counters that its replies say.
+    fn compare_single(&self, tenant: u32, ids: &[u32], batch: &Answered) -> Result<(), Difference> {
+        let lookup = |&id: &u32| Call::Lookup { tenant, id };
+        let calls: Vec<Call> = ids.iter().map(lookup).collect();
+        let (mut table, mut medium) = (self.table.clone(), self.medium.clone());
+        let mut replies = vec![UNSTORED; REPLY_WORDS * ids.len()];
+        let words = encode(&calls, UNREAD);
+        proved::resume(&mut table, &words, &mut medium, &mut replies);
+        let [left, ..] = &batch.lent;
+        compare_words(
+            "replies, lookups in the place of Rust",
+            &batch.replies[..replies.len()],
+            &replies,
+        )?;
+        compare_words("table, lookups in the place of Rust", left, &table)?;
+        compare_told(&self.table, &told_by_batch(tenant, &replies), left)
     }
 
     fn described(&self, text: Difference, tenant: u32, ids: &[u32], room: Room) -> Difference {

@@ -32,7 +32,8 @@ fn begun(random: &mut Random, tally: &mut Tally) -> Result<(Shape, Lent), Differ
         shape = shape.mostly_of_one(random);
     }
     let table = shape.table();
-    let mut lent = Lent::new(&table, vec![BLANK; shape.medium_len(random)]);
+    let medium = vec![BLANK; shape.medium_len(random)];
+    let mut lent = Lent::counted(random, &table, medium);
     let length = random.between(1, 80) as usize;
     lent.run(&shape.list(random, length), tally)?;
     Ok((shape, lent))
@@ -80,7 +81,7 @@ fn tenant(random: &mut Random, shape: &Shape, ids: &[u32]) -> u32 {
 fn run(
     random: &mut Random,
     shape: &Shape,
-    lent: &Lent,
+    lent: &mut Lent,
     tally: &mut Tally,
 ) -> Result<(), Difference> {
     let ids = list(random, shape);
@@ -109,7 +110,7 @@ fn go_on(
 fn sound(random: &mut Random, tally: &mut Tally) -> Result<(), Difference> {
     let (shape, mut lent) = begun(random, tally)?;
     for _ in 0..random.between(1, 12) {
-        run(random, &shape, &lent, tally)?;
+        run(random, &shape, &mut lent, tally)?;
         go_on(random, &shape, &mut lent, tally)?;
     }
     Ok(())
@@ -119,7 +120,7 @@ fn damaged(random: &mut Random, tally: &mut Tally) -> Result<(), Difference> {
     let (shape, mut lent) = begun(random, tally)?;
     for _ in 0..random.between(1, 12) {
         damage(random, &shape, &mut lent.medium);
-        run(random, &shape, &lent, tally)?;
+        run(random, &shape, &mut lent, tally)?;
         go_on(random, &shape, &mut lent, tally)?;
     }
     Ok(())
@@ -136,7 +137,7 @@ fn altered(random: &mut Random, tally: &mut Tally) -> Result<(), Difference> {
             4 => lent.table = any_table(random, &shape),
             _ => lent.table.push(random.word()),
         }
-        run(random, &shape, &lent, tally)?;
+        run(random, &shape, &mut lent, tally)?;
         if random.one_in(2) {
             lent.table.clone_from(&whole);
         }
@@ -155,7 +156,7 @@ fn short_media(random: &mut Random, tally: &mut Tally) -> Result<(), Difference>
     };
     lent.medium.truncate(length);
     for _ in 0..random.between(1, 4) {
-        run(random, &shape, &lent, tally)?;
+        run(random, &shape, &mut lent, tally)?;
         go_on(random, &shape, &mut lent, tally)?;
     }
     Ok(())
@@ -168,7 +169,8 @@ fn many_servers(random: &mut Random, tally: &mut Tally) -> Result<(), Difference
     shape.ids = (0..300).map(|_| random.below(CONTENT_RANGE)).collect();
     let shape = shape.mostly_of_one(random);
     let table = shape.table();
-    let mut lent = Lent::new(&table, vec![BLANK; shape.medium_len(random)]);
+    let medium = vec![BLANK; shape.medium_len(random)];
+    let mut lent = Lent::counted(random, &table, medium);
     let added = (0..shape.servers).map(|_| Call::AddServer {
         weight: random.below(shape.capacity + 1),
     });
@@ -176,7 +178,7 @@ fn many_servers(random: &mut Random, tally: &mut Tally) -> Result<(), Difference
     calls.extend((0..600).map(|_| shape.call(random)));
     lent.run(&calls, tally)?;
     for _ in 0..8 {
-        run(random, &shape, &lent, tally)?;
+        run(random, &shape, &mut lent, tally)?;
         go_on(random, &shape, &mut lent, tally)?;
     }
     Ok(())

@@ -1,7 +1,7 @@
 //! Calls and replies as words, and lists of them run on the Rust implementation. The layout is
-//! that of the proved functions: eight words a call, eight a reply, 1,027 a table.
+//! that of the proved functions: eight words a call, eight a reply, 1,035 a table.
 
-use crate::archive::{tenant_of, Missed, Refusal, Table};
+use crate::archive::{tenant_of, Missed, Refusal, Table, TENANTS};
 use crate::placement::MAX_SERVERS;
 
 /// A call's words: its number, a tenant, an id or a server, and a value or a weight. The other four
@@ -17,16 +17,17 @@ pub const REPLY_WORDS: usize = 8;
 pub const REFUSAL: usize = 0;
 const SERVER: usize = 1;
 const VALUE: usize = 2;
-const OPENED: usize = 4;
+pub const OPENED: usize = 4;
 pub const INVALIDATED: usize = 5;
 
-/// A table's words: its capacity, its salt, its count, and four parts of a word for each server:
-/// weights, used, numerators and denominators.
-pub const TABLE_WORDS: usize = table_word(4, 0);
+/// A table's words: its capacity, its salt, its count, four parts of a word for each server, which
+/// are weights, used, numerators and denominators, and a counter for each tenant.
+pub const TABLE_WORDS: usize = COUNTERS + TENANTS as usize;
 pub const CAPACITY: usize = 0;
 pub const SALT: usize = 1;
 pub const COUNT: usize = 2;
 pub const PARTS: usize = 3;
+pub const COUNTERS: usize = table_word(4, 0);
 
 /// Where the word of a server stands in one of the four parts.
 pub const fn table_word(part: usize, server: usize) -> usize {
@@ -213,6 +214,7 @@ impl Table {
             used: part(1),
             read_numerators: part(2),
             read_denominators: part(3),
+            counters: words[COUNTERS..].try_into().expect("8"),
         }
     }
 
@@ -226,9 +228,11 @@ impl Table {
             &self.read_numerators,
             &self.read_denominators,
         ];
+        let (words, counters) = words.split_at_mut(COUNTERS);
         for (words, part) in words[PARTS..].chunks_exact_mut(MAX_SERVERS).zip(parts) {
             words.copy_from_slice(part);
         }
+        counters.copy_from_slice(&self.counters);
     }
 
     pub fn words(&self) -> [u32; TABLE_WORDS] {
@@ -268,7 +272,7 @@ impl Table {
         result.unwrap_or_else(Reply::refused)
     }
 
-    pub fn run_lookup(&self, medium: &[u32], tenant: u32, id: u32) -> Reply {
+    pub fn run_lookup(&mut self, medium: &[u32], tenant: u32, id: u32) -> Reply {
         match self.lookup(medium, tenant, id) {
             Ok(found) => Reply {
                 value: found.value,

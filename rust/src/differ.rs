@@ -4,10 +4,12 @@
 use std::fmt::Write;
 
 use crate::archive::{Table, BLANK};
-use crate::calls::{self, Call, CAPACITY, COUNT, INVALIDATED, PARTS, REFUSAL};
+use crate::calls::{self, Call, CAPACITY, COUNT, COUNTERS, INVALIDATED, PARTS, REFUSAL};
 use crate::calls::{REPLY_WORDS, SALT, TABLE_WORDS};
+use crate::counters::{self, Told};
 use crate::ledger::Ledger;
 use crate::placement::{self, MAX_SERVERS, SALT_RANGE};
+use crate::random::Random;
 use crate::salts::BySalt;
 use ticket_archive::functions as proved;
 
@@ -167,6 +169,9 @@ fn compare_outcomes(proved: &Outcome, rust: &Outcome) -> Result<(), Difference> 
     compare_replies(&proved.replies, &rust.replies)?;
     compare_words("replies", &proved.replies, &rust.replies)?;
     compare_words("medium", &proved.medium, &rust.medium)?;
+    if let (Some(proved), Some(rust)) = (counters::of(&proved.table), counters::of(&rust.table)) {
+        compare_words("counters", &proved, &rust)?;
+    }
     compare_words(
         "table",
         &below_count(&proved.table),
@@ -188,10 +193,10 @@ fn below_count(table: &[u32]) -> Vec<u32> {
     }
     let count = (table[COUNT] as usize).min(MAX_SERVERS);
     let mut words = table[..PARTS].to_vec();
-    for part in table[PARTS..TABLE_WORDS].chunks_exact(MAX_SERVERS) {
+    for part in table[PARTS..COUNTERS].chunks_exact(MAX_SERVERS) {
         words.extend(&part[..count]);
     }
-    words.extend(&table[TABLE_WORDS..]);
+    words.extend(&table[COUNTERS..]);
     words
 }
 
@@ -217,35 +222,88 @@ fn described(
 
 /// Runs `replay` on both sides, from a start with this capacity and salt on a medium as given.
 pub fn run_replay(
-    [capacity, salt]: [u32; 2],
+    start: [u32; 2],
     medium: &[u32],
     list: &[Call],
     encoded: &Encoded,
     tally: &mut Tally,
 ) -> Result<(), Difference> {
-    let proved = encoded.replay(proved::replay, capacity, salt, medium);
-    let rust = encoded.replay(calls::replay, capacity, salt, medium);
-    tally.count_replay(salt, list, proved.replies_run());
-    compare_outcomes(&proved, &rust).map_err(|text| described(text, [capacity, salt], medium, list))
+    run_from_start(start, medium, list, encoded, tally)
+        .map(|_| ())
+        .map_err(|text| described(text, start, medium, list))
 }
 
 /// Runs `replay` on both sides from a start on a blank medium, and the ledger.
 pub fn run_blank(
-    [capacity, salt]: [u32; 2],
+    start: [u32; 2],
     medium_len: usize,
     list: &[Call],
     tally: &mut Tally,
 ) -> Result<(), Difference> {
     let medium = vec![BLANK; medium_len];
-    let encoded = Encoded::new(list);
-    let proved = encoded.replay(proved::replay, capacity, salt, &medium);
-    let rust = encoded.replay(calls::replay, capacity, salt, &medium);
-    tally.count_replay(salt, list, proved.replies_run());
+    let [capacity, salt] = start;
     let mut ledger = Ledger::new(capacity, salt, medium_len);
-    compare_outcomes(&proved, &rust)
-        .and_then(|()| compare_ledger(&mut ledger, list, proved.replies_run()))
-        .and_then(|()| compare_live(&proved.medium, ledger.accepted_writes()))
-        .map_err(|text| described(text, [capacity, salt], &medium, list))
+    run_from_start(start, &medium, list, &Encoded::new(list), tally)
+        .and_then(|proved| {
+            compare_ledger(&mut ledger, list, proved.replies_run())?;
+            compare_live(&proved.medium, ledger.accepted_writes())
+        })
+        .map_err(|text| described(text, start, &medium, list))
+}
+
+/// Runs `replay` on both sides, which gives no table back, and then the same calls by `resume` from
+/// a started table; answers what the proved `replay` left.
+fn run_from_start(
+    [capacity, salt]: [u32; 2],
+    medium: &[u32],
+    list: &[Call],
+    encoded: &Encoded,
+    tally: &mut Tally,
+) -> Result<Outcome, Difference> {
+    let proved = encoded.replay(proved::replay, capacity, salt, medium);
+    let rust = encoded.replay(calls::replay, capacity, salt, medium);
+    tally.count_replay(salt, list, proved.replies_run());
+    compare_outcomes(&proved, &rust)?;
+    if let Ok(table) = Table::start(capacity, salt) {
+        let mut started = vec![UNSTORED; TABLE_WORDS];
+        proved::start(capacity, salt, &mut started);
+        compare_words("started table", &started, &table.words())?;
+        let resumed = encoded.resume(proved::resume, &started, medium);
+        let rust = encoded.resume(calls::resume, &started, medium);
+        compare_outcomes(&resumed, &rust)
+            .and_then(|()| compare_counters(&started, list, &resumed))
+            .map_err(|text| format!("by resume: {text}"))?;
+        compare_words(
+            "replies, resume in the place of Rust",
+            &proved.replies,
+            &resumed.replies,
+        )?;
+        compare_words(
+            "medium, resume in the place of Rust",
+            &proved.medium,
+            &resumed.medium,
+        )?;
+    }
+    Ok(proved)
+}
+
+/// The counters that a list left are those that its replies say.
+fn compare_counters(before: &[u32], list: &[Call], left: &Outcome) -> Result<(), Difference> {
+    let told = counters::told_by_list(list, left.replies_run());
+    compare_told(before, &told, &left.table)
+}
+
+/// The counters of a table are those that lookups leave, by what was replied to them.
+pub fn compare_told(before: &[u32], told: &[Told], left: &[u32]) -> Result<(), Difference> {
+    let (Some(before), Some(left)) = (counters::of(before), counters::of(left)) else {
+        return Ok(());
+    };
+    let expected = counters::after(before, told);
+    compare_words(
+        "counters, the replies in the place of Rust",
+        &left,
+        &expected,
+    )
 }
 
 /// The ledger says nothing of invalidated entries.
@@ -287,6 +345,13 @@ impl Lent {
         }
     }
 
+    /// The same, half of the time with other counters in range.
+    pub fn counted(random: &mut Random, table: &Table, medium: Vec<u32>) -> Self {
+        let mut lent = Lent::new(table, medium);
+        counters::lend(random, &mut lent.table);
+        lent
+    }
+
     /// The capacity and the salt of the table lent, 0 where it is too short for them.
     fn start(&self) -> [u32; 2] {
         [CAPACITY, SALT].map(|at| self.table.get(at).copied().unwrap_or(0))
@@ -299,10 +364,12 @@ impl Lent {
         let rust = encoded.resume(calls::resume, &self.table, &self.medium);
         let [_, salt] = self.start();
         tally.count(salt, proved.replies_run());
-        compare_outcomes(&proved, &rust).map_err(|text| {
-            let text = described(text, self.start(), &self.medium, list);
-            format!("{text}table before: {:?}\n", below_count(&self.table))
-        })?;
+        compare_outcomes(&proved, &rust)
+            .and_then(|()| compare_counters(&self.table, list, &proved))
+            .map_err(|text| {
+                let text = described(text, self.start(), &self.medium, list);
+                format!("{text}table before: {:?}\n", below_count(&self.table))
+            })?;
         self.table = proved.table;
         self.medium = proved.medium;
         Ok(())

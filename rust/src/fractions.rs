@@ -105,7 +105,7 @@ pub fn near_fraction(random: &mut Random, tally: &mut Tally) -> Result<(), Diffe
         return Ok(());
     };
     let table = with_read_p(salt, server, Fraction::new(numerator, denominator));
-    let mut lent = Lent::new(&table, vec![BLANK; 3 * (server + 1)]);
+    let mut lent = Lent::counted(random, &table, vec![BLANK; 3 * (server + 1)]);
     let list = [
         Call::lookup(id),
         Call::write(id, 1),

@@ -116,7 +116,8 @@ pub fn one_by_one(random: &mut Random, tally: &mut Tally) -> Result<(), Differen
         list = vec![Call::AddServer { weight: 1 }; shape.servers as usize];
     }
     let table = shape.table();
-    let mut lent = Lent::new(&table, vec![BLANK; shape.medium_len(random)]);
+    let medium = vec![BLANK; shape.medium_len(random)];
+    let mut lent = Lent::counted(random, &table, medium);
     match random.below(8) {
         0 | 1 => damage(random, &shape, &mut lent.medium),
         2 | 3 => lent.table = any_table(random, &shape),
@@ -208,7 +209,8 @@ fn short_resume(random: &mut Random, lent: &Lent, list: &[Call]) -> Result<(), D
 pub fn short_runs(random: &mut Random, tally: &mut Tally) -> Result<(), Difference> {
     let shape = Shape::random(random, 8, 6);
     let table = shape.table();
-    let mut lent = Lent::new(&table, vec![BLANK; shape.medium_len(random)]);
+    let medium = vec![BLANK; shape.medium_len(random)];
+    let mut lent = Lent::counted(random, &table, medium);
     lent.run(&shape.list(random, 20), tally)?;
     let list = shape.list(random, 4);
     for &call in &list {

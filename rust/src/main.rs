@@ -7,6 +7,7 @@ mod batch_differ;
 mod batch_suites;
 mod bench;
 mod calls;
+mod counters;
 mod differ;
 mod exhaustive;
 mod fractions;

@@ -1,11 +1,12 @@
 //! Two histories on blank media of different lengths, with the same servers added, weights set and
 //! calls of one tenant, and with other calls of its neighbours in between. Where each of those
 //! servers, weights and writes is accepted in both histories or in neither, the tenant is told the
-//! same. Both histories are run on the proved code.
+//! same, and its counter is the same. Both histories are run on the proved code.
 
 use crate::archive::{BLANK, TENANTS};
 use crate::batch::MAX_IDS;
 use crate::calls::{encode, Call, REFUSAL, REPLY_WORDS, TABLE_WORDS};
+use crate::counters::word_of;
 use crate::differ::{Difference, Tally, UNREAD, UNSTORED};
 use crate::lists::{moved, Shape};
 use crate::random::Random;
@@ -66,13 +67,15 @@ impl History {
         &self.replies[first..first + REPLY_WORDS]
     }
 
-    /// The number, replies, order and mounts of a batch on what the history left.
-    fn batch(&self, tenant: u32, ids: &[u32]) -> (u32, Vec<u32>, Vec<u32>, [u32; 1]) {
+    /// The number, replies, order and mounts of a batch on what the history left, and the tenant's
+    /// counter before and after it.
+    fn batch(&self, tenant: u32, ids: &[u32]) -> (u32, Vec<u32>, Vec<u32>, [u32; 3]) {
         let mut replies = vec![UNSTORED; REPLY_WORDS * ids.len()];
         let mut order = vec![UNSTORED; ids.len()];
         let mut mounts = [UNSTORED];
+        let mut table = self.table.clone();
         let number = proved::lookup_batch(
-            &self.table,
+            &mut table,
             &self.medium,
             tenant,
             ids,
@@ -80,7 +83,8 @@ impl History {
             &mut order,
             &mut mounts,
         );
-        (number, replies, order, mounts)
+        let [before, after] = [&self.table, &table].map(|table| table[word_of(tenant)]);
+        (number, replies, order, [mounts[0], before, after])
     }
 }
 

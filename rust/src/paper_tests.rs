@@ -1,5 +1,5 @@
-//! The known draws, the edges and the example of document 01 and the tenants and salts of document
-//! 02, on the Rust implementation and the ledger alone.
+//! The known draws, the edges and the example of document 01 and the tenants, salts and counters of
+//! document 02, on the Rust implementation and the ledger alone.
 
 use crate::archive::{tenant_of, Refusal, Table, BLANK};
 use crate::calls::{Call, Reply};
@@ -98,6 +98,9 @@ fn example_on_the_archive() {
         }
         let id = known_id(salt);
         assert_eq!(medium[24..27], [id, 1_073_742_324, 2_147_483_649]);
+        let mut counters = [0; 8];
+        counters[tenant_of(id) as usize] = 1 + 2 + 2;
+        assert_eq!(table.counters, counters);
     }
 }
 
@@ -129,6 +132,7 @@ fn batch() {
     let batch = answer.expect("four ids");
     assert_eq!(batch.order, [1, 3, 0, 2]);
     assert_eq!(batch.mounts, 1);
+    assert_eq!(table.counters, [0, 0, 0, 0, 2, 0, 0, 0]);
     assert_eq!(batch.replies[1], Reply::refused(Refusal::OutOfRange));
     assert_eq!((batch.replies[2].value, batch.replies[2].opened), (500, 1));
     assert_eq!(batch.replies[3], Reply::refused(Refusal::OtherTenant));
@@ -136,9 +140,10 @@ fn batch() {
     let outside = outside.expect("two ids");
     assert_eq!(outside.replies, [Reply::refused(Refusal::OutOfRange); 2]);
     assert_eq!((outside.order, outside.mounts), (vec![0, 1], 0));
-    let refusal = |table: &Table| table.lookup_batch(&medium, 4, &[id; 257]).err();
-    assert_eq!(refusal(&table), Some(Refusal::OutOfRange));
-    assert_eq!(refusal(&Table::ZERO), Some(Refusal::Unsound));
+    let refusal = |table: &mut Table| table.lookup_batch(&medium, 4, &[id; 257]).err();
+    assert_eq!(refusal(&mut table), Some(Refusal::OutOfRange));
+    assert_eq!(refusal(&mut Table::ZERO.clone()), Some(Refusal::Unsound));
+    assert_eq!(table.counters, [0, 0, 0, 0, 2, 0, 0, 0]);
 }
 
 #[test]
@@ -175,6 +180,36 @@ fn salts() {
         let mut table = Table::start(1, 1_073_741_823).expect("in range");
         table.salt = salt;
         assert_eq!(table.add_server(&[BLANK; 3], 1), Err(Refusal::Unsound));
+    }
+}
+
+#[test]
+fn counters() {
+    let id = known_id(0);
+    let mut table = Table::start(1, 0).expect("in range");
+    let mut medium = vec![BLANK; 3];
+    table.add_server(&medium, 1).expect("blank");
+    let lookups = [
+        Call::lookup(id),
+        Call::lookup(0),
+        Call::Lookup { tenant: 4, id: 0 },
+    ];
+    let mut run = |table: &mut Table| lookups.map(|call| table.run(&mut medium, call).refusal);
+    assert_eq!(run(&mut table), [8, 8, 11]);
+    assert_eq!(table.counters, [1, 0, 0, 0, 1, 0, 0, 0]);
+    table.counters[4] = 1_073_741_822;
+    for _ in 0..2 {
+        assert_eq!(run(&mut table), [8, 8, 11]);
+        assert_eq!(table.counters[4], 1_073_741_823);
+    }
+    for tenant in 0..8 {
+        for above in [1_073_741_824, u32::MAX] {
+            let mut unsound = table.clone();
+            unsound.counters[tenant] = above;
+            let before = unsound.clone();
+            assert_eq!(run(&mut unsound), [1, 1, 1]);
+            assert_eq!(unsound, before);
+        }
     }
 }
 

@@ -1,7 +1,9 @@
 //! Several reasons to refuse a call at once: the first in the order of the tests is given.
 
 use crate::archive::{tenant_of, Table, BLANK, CONTENT_RANGE, TENANTS};
+use crate::batch_differ::Room;
 use crate::calls::{Call, CALL_WORDS, REFUSAL, REPLY_WORDS};
+use crate::counters;
 use crate::differ::{compare_words, Difference, Lent, Tally, UNREAD, UNSTORED};
 use crate::lists::no_tenant;
 use crate::random::Random;
@@ -70,6 +72,9 @@ pub fn in_order(random: &mut Random, tally: &mut Tally) -> Result<(), Difference
     for _ in 0..count {
         table.add_server(&medium, capacity).expect("blank");
     }
+    if random.one_in(2) {
+        table.counters = table.counters.map(|_| counters::counter(random));
+    }
     let is_unsound = random.one_in(4);
     if is_unsound {
         make_unsound(random, &mut table);
@@ -102,16 +107,20 @@ pub fn in_order(random: &mut Random, tally: &mut Tally) -> Result<(), Difference
     lent.run(&asked.calls(), tally)
 }
 
-/// Puts the capacity or the salt out of range.
+/// Puts the capacity, the salt or a counter out of range.
 fn make_unsound(random: &mut Random, table: &mut Table) {
-    match random.one_in(2) {
-        true => table.capacity = random.pick(&[0, 65_537, u32::MAX]),
-        false => table.salt = salts::no_salt(random),
+    match random.below(3) {
+        0 => table.capacity = random.pick(&[0, 65_537, u32::MAX]),
+        1 => table.salt = salts::no_salt(random),
+        _ => {
+            let tenant = random.below(TENANTS) as usize;
+            table.counters[tenant] = counters::no_counter(random);
+        }
     }
 }
 
 /// The proved call gives this number and zeros, and changes nothing.
-pub fn refused_by(lent: &Lent, call: Call, number: u32) -> Result<(), Difference> {
+fn refused_by(lent: &Lent, call: Call, number: u32) -> Result<(), Difference> {
     let mut expected = [0; REPLY_WORDS];
     expected[REFUSAL] = number;
     let (mut table, mut medium) = (lent.table.clone(), lent.medium.clone());
@@ -124,15 +133,42 @@ pub fn refused_by(lent: &Lent, call: Call, number: u32) -> Result<(), Difference
         .map_err(|text| format!("{call:?}: {text}"))
 }
 
-/// The proved batch of this id gives it the number and zeros, and opens no server.
-pub fn id_refused_by(lent: &Lent, tenant: u32, id: u32, number: u32) -> Result<(), Difference> {
+/// The proved batch of this id gives it the number and zeros, opens no server, and changes nothing.
+fn id_refused_by(lent: &Lent, tenant: u32, id: u32, number: u32) -> Result<(), Difference> {
     let mut expected = [0; REPLY_WORDS + 2];
     expected[REFUSAL] = number;
     let mut told = [UNSTORED; REPLY_WORDS + 2];
     let (reply, rest) = told.split_at_mut(REPLY_WORDS);
     let (order, mounts) = rest.split_at_mut(1);
-    let Lent { table, medium } = lent;
-    proved::lookup_batch(table, medium, tenant, &[id], reply, order, mounts);
+    let mut table = lent.table.clone();
+    proved::lookup_batch(
+        &mut table,
+        &lent.medium,
+        tenant,
+        &[id],
+        reply,
+        order,
+        mounts,
+    );
     compare_words("reply, order and mounts", &told, &expected)
+        .and_then(|()| compare_words("table", &table, &lent.table))
         .map_err(|text| format!("batch of {id} by {tenant}: {text}"))
+}
+
+/// Each call is refused by 1 and changes nothing, and so is each id of a batch. This is told here
+/// and not by the Rust implementation.
+pub fn all_refused(lent: &mut Lent, calls: &[Call], tally: &mut Tally) -> Result<(), Difference> {
+    let mut ids = Vec::new();
+    for &call in calls {
+        match call {
+            Call::None { .. } => continue,
+            Call::Lookup { tenant, id } => {
+                id_refused_by(lent, tenant, id, 1)?;
+                ids.push(id);
+            }
+            _ => {}
+        }
+        refused_by(lent, call, 1)?;
+    }
+    lent.run_batch(0, &ids, Room::of(ids.len()), tally)
 }

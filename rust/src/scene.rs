@@ -185,7 +185,7 @@ fn call_each(table: &mut [u32], calls: &[u32], medium: &mut [u32], replies: &mut
 }
 
 /// Ids of the first one's tenant by `archive_lookup_batch`, 256 at a time.
-fn look_up_all(table: &[u32], medium: &[u32], ids: &[u32], replies: &mut [u32]) -> usize {
+fn look_up_all(table: &mut [u32], medium: &[u32], ids: &[u32], replies: &mut [u32]) -> usize {
     let mut order = [0; MAX_IDS];
     let mut mounts = [0];
     let tenant = tenant_of(ids[0]);

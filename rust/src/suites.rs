@@ -2,6 +2,7 @@
 
 use crate::archive::{tenant_of, BLANK, CONTENT_RANGE, TENANTS};
 use crate::calls::{table_word, Call, CAPACITY, COUNT, SALT, TABLE_WORDS};
+use crate::counters;
 use crate::differ::{compare_words, run_blank, run_picks, run_replay, Encoded, UNSTORED};
 use crate::differ::{Difference, Lent, Tally};
 use crate::fractions::{near_fraction, on_fraction};
@@ -69,7 +70,7 @@ fn damaged(random: &mut Random, tally: &mut Tally) -> Result<(), Difference> {
         return run_replay(shape.start(), &medium, &list, &Encoded::new(&list), tally);
     }
     let table = shape.table();
-    let mut lent = Lent::new(&table, medium);
+    let mut lent = Lent::counted(random, &table, medium);
     lent.run(&shape.list(random, 12), tally)?;
     for _ in 0..random.between(1, 24) {
         damage(random, &shape, &mut lent.medium);
@@ -85,7 +86,7 @@ fn altered(random: &mut Random, tally: &mut Tally) -> Result<(), Difference> {
     let shape = Shape::random(random, 6, 6);
     let medium = vec![BLANK; shape.medium_len(random)];
     let table = shape.table();
-    let mut lent = Lent::new(&table, medium);
+    let mut lent = Lent::counted(random, &table, medium);
     lent.run(&shape.list(random, 12), tally)?;
     let mut older = lent.table.clone();
     for _ in 0..random.between(1, 24) {
@@ -117,14 +118,15 @@ fn table_number(random: &mut Random, shape: &Shape) -> u32 {
     }
 }
 
-/// Alters one word among those that are read, or the count, the capacity or the salt.
+/// Alters one word among those that are read, or the count, the capacity, the salt or a counter.
 pub fn alter(random: &mut Random, shape: &Shape, table: &mut [u32]) {
     let number = table_number(random, shape);
     let count = table[COUNT].clamp(1, MAX_SERVERS as u32);
-    match random.below(9) {
+    match random.below(10) {
         0 => table[CAPACITY] = number,
         1 => table[COUNT] = number,
         2 => table[SALT] = salts::any(random),
+        3 => table[counters::word_of(random.below(TENANTS))] = counters::any(random),
         part => {
             let server = random.below(count) as usize;
             table[table_word(part as usize % 4, server)] = number;
@@ -157,6 +159,7 @@ pub fn any_table(random: &mut Random, shape: &Shape) -> Vec<u32> {
         table[table_word(2, server)] = denominator - below.min(denominator);
         table[table_word(3, server)] = denominator;
     }
+    counters::lend(random, &mut table);
     if random.one_in(4) {
         alter(random, shape, &mut table);
     }

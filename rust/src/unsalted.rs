@@ -2,14 +2,13 @@
 //! picked under one.
 
 use crate::archive::BLANK;
-use crate::batch_differ::Room;
 use crate::calls::{Call, SALT, TABLE_WORDS};
 use crate::differ::{run_blank, run_picks, Difference, Lent, Tally};
 use crate::interface::start;
 use crate::lists::Shape;
 use crate::placement::MAX_CAPACITY;
 use crate::random::Random;
-use crate::rows::{id_refused_by, refused_by};
+use crate::rows::all_refused;
 use crate::salts::no_salt;
 
 /// A start, a list from a start, and picks with what is no salt; and a table that gets one between
@@ -24,12 +23,12 @@ pub fn out_of_range(random: &mut Random, tally: &mut Tally) -> Result<(), Differ
     let weights: Vec<u32> = (0..shape.servers).map(|_| weight(random)).collect();
     run_picks(&weights, salt, &shape.ids, shape.ids.len(), tally)?;
 
-    let mut lent = Lent::new(&shape.table(), vec![BLANK; medium_len]);
+    let mut lent = Lent::counted(random, &shape.table(), vec![BLANK; medium_len]);
     lent.run(&list, tally)?;
     lent.table[SALT] = salt;
     let length = random.between(60, 140);
     let calls: Vec<Call> = (0..length).map(|_| shape.call(random)).collect();
-    refused(&lent, &calls, tally)?;
+    all_refused(&mut lent, &calls, tally)?;
     lent.run(&calls, tally)?;
     lent.table[SALT] = shape.salt;
     lent.run(&shape.list(random, 8), tally)
@@ -37,22 +36,4 @@ pub fn out_of_range(random: &mut Random, tally: &mut Tally) -> Result<(), Differ
 
 fn weight(random: &mut Random) -> u32 {
     random.below(MAX_CAPACITY + 1)
-}
-
-/// Each call is refused by 1 and changes nothing, and so is each id of a batch. This is told here
-/// and not by the Rust implementation.
-fn refused(lent: &Lent, calls: &[Call], tally: &mut Tally) -> Result<(), Difference> {
-    let mut ids = Vec::new();
-    for &call in calls {
-        match call {
-            Call::None { .. } => continue,
-            Call::Lookup { tenant, id } => {
-                id_refused_by(lent, tenant, id, 1)?;
-                ids.push(id);
-            }
-            _ => {}
-        }
-        refused_by(lent, call, 1)?;
-    }
-    lent.run_batch(0, &ids, Room::of(ids.len()), tally)
 }
