@@ -4,7 +4,7 @@
 use crate::archive::Table;
 use crate::batch;
 use crate::calls::{encode, Call, Reply, REFUSAL, REPLY_WORDS};
-use crate::counters::told_by_batch;
+use crate::counters::{told_by_batch, Told};
 use crate::differ::{compare_told, compare_words, Difference, Lent, Tally, UNREAD, UNSTORED};
 use ticket_archive::{functions as proved, Archive};
 
@@ -112,6 +112,17 @@ impl Lent {
         room: Room,
         tally: &mut Tally,
     ) -> Result<(), Difference> {
+        self.run_batch_told(tenant, ids, room, tally).map(|_| ())
+    }
+
+    /// The same; answers what was replied to the ids.
+    pub fn run_batch_told(
+        &mut self,
+        tenant: u32,
+        ids: &[u32],
+        room: Room,
+        tally: &mut Tally,
+    ) -> Result<Vec<Told>, Difference> {
         let answered = |run: Lookups| {
             let lent = [self.table.clone(), self.medium.clone(), ids.to_vec()];
             answered(run, lent, tenant, room)
@@ -130,9 +141,14 @@ impl Lent {
                 _ => compare_words("table of a refused batch", &proved.lent[0], &self.table),
             })
             .map_err(|text| self.described(text, tenant, ids, room))?;
+        let told = match proved.number {
+            0 => told_by_batch(tenant, &proved.replies[..REPLY_WORDS * ids.len()]),
+            _ => Vec::new(),
+        };
+        tally.batch_cases.count_batch(&self.table, &told);
         let [table, ..] = proved.lent;
         self.table = table;
-        Ok(())
+        Ok(told)
     }
 
     /// An accepted batch replies and leaves what its lookups do, made one after another by the

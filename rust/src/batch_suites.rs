@@ -20,7 +20,7 @@ pub const SUITES: [(&str, Suite, u64); 6] = [
 
 /// A small archive with a list of calls behind it, and now and then more ids than usual. Mostly one
 /// tenant has most of them.
-fn begun(random: &mut Random, tally: &mut Tally) -> Result<(Shape, Lent), Difference> {
+pub fn begun(random: &mut Random, tally: &mut Tally) -> Result<(Shape, Lent), Difference> {
     let mut shape = match random.below(8) {
         0 => Shape::random(random, 32, 24),
         _ => Shape::random(random, 8, 6),
@@ -54,7 +54,7 @@ fn ids(random: &mut Random, shape: &Shape, length: u32) -> Vec<u32> {
 }
 
 /// Mostly a short list, or one at the edges of the lengths.
-fn list(random: &mut Random, shape: &Shape) -> Vec<u32> {
+pub fn list(random: &mut Random, shape: &Shape) -> Vec<u32> {
     let length = match random.below(20) {
         0 => 0,
         1 => 1,
@@ -69,7 +69,7 @@ fn list(random: &mut Random, shape: &Shape) -> Vec<u32> {
 }
 
 /// Whose batch it is: mostly that of an id that the calls name, or of one of the list.
-fn tenant(random: &mut Random, shape: &Shape, ids: &[u32]) -> u32 {
+pub fn tenant(random: &mut Random, shape: &Shape, ids: &[u32]) -> u32 {
     if !ids.is_empty() && random.one_in(4) {
         return tenant_of(random.pick(ids));
     }

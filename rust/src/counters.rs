@@ -2,7 +2,7 @@
 //! it, and those above it; and what the replies alone say of the counters after lookups.
 
 use crate::archive::{MAX_COUNTER, TENANTS};
-use crate::calls::{Call, COUNTERS, OPENED, REPLY_WORDS};
+use crate::calls::{Call, COUNTERS, OPENED, REFUSAL, REPLY_WORDS};
 use crate::random::Random;
 
 pub type Counters = [u32; TENANTS as usize];
@@ -72,6 +72,7 @@ pub fn of(table: &[u32]) -> Option<Counters> {
 #[derive(Clone, Copy, Debug)]
 pub struct Told {
     pub tenant: u32,
+    pub refusal: u32,
     pub opened: u32,
 }
 
@@ -79,6 +80,7 @@ impl Told {
     fn new(tenant: u32, reply: &[u32]) -> Self {
         Told {
             tenant,
+            refusal: reply[REFUSAL],
             opened: reply[OPENED],
         }
     }

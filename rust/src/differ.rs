@@ -6,6 +6,7 @@ use std::fmt::Write;
 use crate::archive::{Table, BLANK};
 use crate::calls::{self, Call, CAPACITY, COUNT, COUNTERS, INVALIDATED, PARTS, REFUSAL};
 use crate::calls::{REPLY_WORDS, SALT, TABLE_WORDS};
+use crate::cases::Cases;
 use crate::counters::{self, Told};
 use crate::ledger::Ledger;
 use crate::placement::{self, MAX_SERVERS, SALT_RANGE};
@@ -45,6 +46,10 @@ pub struct Tally {
     /// What was compared in such pairs: calls, and ids of batches.
     pub neighbours_calls: u64,
     pub neighbours_ids: u64,
+    /// What was met about counters by lists and by batches, and the rounds made for it alone.
+    pub cases: Cases,
+    pub batch_cases: Cases,
+    pub counting: u64,
 }
 
 impl Tally {
@@ -283,6 +288,9 @@ fn run_from_start(
             &proved.medium,
             &resumed.medium,
         )?;
+        tally
+            .cases
+            .count_list(&started, list, resumed.replies_run());
     }
     Ok(proved)
 }
@@ -359,6 +367,11 @@ impl Lent {
 
     /// Runs `resume` on both sides and keeps what both left.
     pub fn run(&mut self, list: &[Call], tally: &mut Tally) -> Result<(), Difference> {
+        self.run_told(list, tally).map(|_| ())
+    }
+
+    /// The same; answers what was replied to the lookups.
+    pub fn run_told(&mut self, list: &[Call], tally: &mut Tally) -> Result<Vec<Told>, Difference> {
         let encoded = Encoded::new(list);
         let proved = encoded.resume(proved::resume, &self.table, &self.medium);
         let rust = encoded.resume(calls::resume, &self.table, &self.medium);
@@ -370,9 +383,12 @@ impl Lent {
                 let text = described(text, self.start(), &self.medium, list);
                 format!("{text}table before: {:?}\n", below_count(&self.table))
             })?;
+        let replies = proved.replies_run();
+        tally.cases.count_list(&self.table, list, replies);
+        let told = counters::told_by_list(list, replies);
         self.table = proved.table;
         self.medium = proved.medium;
-        Ok(())
+        Ok(told)
     }
 }
 

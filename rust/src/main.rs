@@ -7,7 +7,9 @@ mod batch_differ;
 mod batch_suites;
 mod bench;
 mod calls;
+mod cases;
 mod counters;
+mod counting;
 mod differ;
 mod exhaustive;
 mod fractions;
@@ -30,6 +32,7 @@ mod unsalted;
 use std::process::ExitCode;
 use std::time::Instant;
 
+use cases::Kind;
 use differ::{Difference, Tally};
 use random::Random;
 use scene::Side;
@@ -58,6 +61,7 @@ impl Options {
 
 const USAGE: &str = "\
 compare test [--seed N] [--calls N] [--batches N]
+compare stop
 compare salts
 compare time [--only NAME] [--runs N] [--best FILE]
 compare count [--only NAME]
@@ -70,6 +74,7 @@ fn main() -> ExitCode {
     let only = options.text("--only");
     match options.words.first().map(String::as_str) {
         Some("test") => test(&options),
+        Some("stop") => counting::to_the_stop(),
         Some("salts") => sharing::print(),
         Some("time") => {
             let runs = options.number("--runs", 10);
@@ -103,12 +108,13 @@ fn test(options: &Options) -> ExitCode {
     let result = run_suites(seed, calls, &mut tally)
         .and_then(|()| run_interface(seed, calls, &mut tally))
         .and_then(|()| run_batches(seed, batches, &mut tally))
-        .and_then(|()| run_neighbours(seed, calls, &mut tally));
+        .and_then(|()| run_neighbours(seed, calls, &mut tally))
+        .and_then(|()| run_counting(seed, calls, &mut tally));
     match result {
         Ok(()) => {
             report(&tally);
             println!("no difference in {:.1} s", began.elapsed().as_secs_f64());
-            met_salts(&tally, calls)
+            met_enough(&tally, calls)
         }
         Err(difference) => {
             println!("DIFFERENCE (seed {seed}, calls {calls}, batches {batches})\n{difference}");
@@ -117,14 +123,25 @@ fn test(options: &Options) -> ExitCode {
     }
 }
 
-/// Fails where a salt at an edge was not met often enough for a difference to show.
-fn met_salts(tally: &Tally, calls: u64) -> ExitCode {
-    let missed = tally.by_salt.missed(calls);
-    if missed.is_empty() {
-        return ExitCode::SUCCESS;
+/// Fails where a salt at an edge or a case of the counters was not met often enough for a difference
+/// to show.
+fn met_enough(tally: &Tally, calls: u64) -> ExitCode {
+    let salts = tally.by_salt.missed(calls);
+    let lists = tally.cases.missed(Kind::Lists, calls);
+    let ids = tally.batch_cases.missed(Kind::Batches, calls);
+    if !salts.is_empty() {
+        println!("TOO FEW CALLS under the salts {salts:?}");
     }
-    println!("TOO FEW CALLS under the salts {missed:?}");
-    ExitCode::FAILURE
+    if !lists.is_empty() {
+        println!("TOO FEW LOOKUPS with {lists:?}");
+    }
+    if !ids.is_empty() {
+        println!("TOO FEW IDS OF BATCHES with {ids:?}");
+    }
+    match salts.is_empty() && lists.is_empty() && ids.is_empty() {
+        true => ExitCode::SUCCESS,
+        false => ExitCode::FAILURE,
+    }
 }
 
 /// Runs a suite until it has met so many of what is counted; answers how many it met.
@@ -178,6 +195,15 @@ fn run_neighbours(seed: u64, calls: u64, tally: &mut Tally) -> Result<(), Differ
     Ok(())
 }
 
+fn run_counting(seed: u64, calls: u64, tally: &mut Tally) -> Result<(), Difference> {
+    for (name, suite, share) in counting::SUITES {
+        let asked = calls * share / 10_000;
+        let ran = run_suite(name, suite, seed, asked, tally, |t| t.counting)?;
+        println!("{name}: {ran} rounds");
+    }
+    Ok(())
+}
+
 fn run_suites(seed: u64, calls: u64, tally: &mut Tally) -> Result<(), Difference> {
     for (name, suite, share) in suites::SUITES {
         let ran = run_suite(name, suite, seed, calls * share / 100, tally, |t| t.calls)?;
@@ -201,6 +227,8 @@ fn report(tally: &Tally) {
     println!("no call: {}", tally.no_calls);
     println!("calls by salt: {}", tally.by_salt);
     println!("calls not run for their salt: {}", tally.not_run);
+    println!("lookups and counters: {}", tally.cases);
+    println!("ids of batches and counters: {}", tally.batch_cases);
     println!("picks: {}", tally.picks);
     println!("calls one at a time: {}", tally.single_calls);
     println!(

@@ -42,7 +42,7 @@ fn blank(random: &mut Random, tally: &mut Tally) -> Result<(), Difference> {
 }
 
 /// A word that a medium might hold: a whole one, a wrong kind or anything.
-fn any_word(random: &mut Random, shape: &Shape) -> u32 {
+pub fn any_word(random: &mut Random, shape: &Shape) -> u32 {
     match random.below(6) {
         0 => BLANK,
         1 => shape.id(random),
