@@ -1,15 +1,14 @@
 -- What the calls make of the counters, whatever table and medium hold: no call but a lookup and a batch changes one; no call reads
 -- one, but to test that it is within its bound; and a batch counts what its single lookups would, one after another.
 -- Assumes nothing.
-use Prim.Native.Nat.{ℕ, zero, suc, _+_, _≤_}
-use mathlib.Core.Path.{_≡_, refl, sym, ap, ap₂, _∙_}
+use Prim.Native.Nat.{ℕ, _+_, _≤_}
+use mathlib.Core.Path.{_≡_, refl, sym, ap, _∙_}
 use mathlib.Core.List.{List, [], _∷_}
-use native.Mathlib.Omega.{arith}
 use lib.ListN.{length}
 use Rattle.limits.specs.Limits.{maxIds}
 use Rattle.lists.specs.Below.{nth, total}
 use Rattle.lists.proofs.Below.{total-first, total-cong}
-use Rattle.counters.specs.Counter.{counted, inBounds}
+use Rattle.counters.specs.Counter.{inBounds}
 use Rattle.counters.proofs.Counters.{counted-twice, counted-bounds}
 use Rattle.table.specs.declared.Table.{Table}
 use Rattle.table.specs.Parts.{withCounters}

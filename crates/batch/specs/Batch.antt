@@ -1,5 +1,5 @@
--- A batch of lookups (document 02, items 1, 2 and 5): the answers that single lookups on the same table and medium give, the servers
--- that these open, and the table that it leaves.
+-- A batch of lookups (document 02, items 1, 2 and 5): the answers that single lookups on the same table and medium give, the
+-- servers that these open, and the table that it leaves.
 use Prim.Native.Nat.{ℕ}
 use mathlib.Core.Bool.{Bool, false, cond, not, _&&_}
 use mathlib.Core.List.{List, [], _∷_}

@@ -77,8 +77,8 @@ fn look_up(words: &[u32], medium: &[u32], tenant: u32, ids: &[u32]) -> Batch
     batch::lookup_batch_in(shape, columns, medium, tenant, ids)
 }
 
-// Looks many ids up together for a tenant, stores each id's reply, the order of finding and the number of servers opened, and counts
-// in the table what single lookups would.
+// Looks many ids up together for a tenant, stores each id's reply, the order of finding and the number of servers opened, and
+// counts in the table what single lookups would.
 pub fn lookup_batch(
     table: &mut [u32],
     medium: &[u32],

@@ -1,5 +1,5 @@
--- The counters of opened servers (document 02, item 5: shelves opened, club by club), on plain numbers. A table has eight, one for each
--- tenant.
+-- The counters of opened servers (document 02, item 5: shelves opened, club by club), on plain numbers. A table has eight, one for
+-- each tenant.
 use Prim.Native.Nat.{ℕ, _+_, min, max}
 use mathlib.Core.Bool.{Bool}
 use mathlib.Core.List.{List}

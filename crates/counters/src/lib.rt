@@ -4,7 +4,6 @@ ghost use lib.ListN.{length};
 ghost use Rattle.limits.specs.Limits.{tenants};
 ghost use Rattle.counters.specs.Counter.{grown, counted, inBounds};
 use limits::MAX_COUNTER;
-use limits::TENANTS;
 
 // A counter after servers were opened: it grows by their number and stops at its bound.
 pub fn grown(counter: u32, opened: usize) -> u32
@@ -36,12 +35,11 @@ pub fn in_bounds(counters: &[u32]) -> bool
     requires { ⌜ length (now counters) ≡ tenants ⌝ }
     ensures { λ r. ⌜ r ≡ inBounds (now (counters .entry)) ⌝ }
 {
+    let mut within = true;
     let mut i: usize = 0;
-    while i < TENANTS {
-        if counters[i] > MAX_COUNTER {
-            return false;
-        }
+    while i < counters.len() {
+        within = within & (counters[i] <= MAX_COUNTER);
         i += 1;
     }
-    true
+    within
 }

@@ -115,8 +115,8 @@ pub extern "C" fn archive_picks(
     picks::picks(weights, salt, ids, servers)
 }
 
-// Looks many ids up together for a tenant, stores each id's reply, the order of finding and the number of servers opened, and counts
-// in the table what single lookups would.
+// Looks many ids up together for a tenant, stores each id's reply, the order of finding and the number of servers opened, and
+// counts in the table what single lookups would.
 #[no_mangle]
 pub extern "C" fn archive_lookup_batch(
     table: &mut [u32],

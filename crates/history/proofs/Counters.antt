@@ -1,14 +1,15 @@
--- The counters over every list of calls, from any table and medium; what a refused call changes; and that no call answers by a counter.
+-- The counters over every list of calls, from any table and medium; what a refused call changes; and that no call answers by a
+-- counter.
 -- Assumes nothing.
-use Prim.Native.Nat.{ℕ, _+_, _<_}
+use Prim.Native.Nat.{ℕ, _<_}
 use mathlib.Core.Path.{_≡_, refl, sym, ap, ap₂, _∙_, subst}
 use mathlib.Core.Logic.{_≢_}
-use mathlib.Core.Bool.{true, cond}
+use mathlib.Core.Bool.{cond}
 use mathlib.Core.List.{List, [], _∷_}
 use native.Mathlib.Omega.{arith}
 use lib.ListN.{length}
 use lib.Dec.{eqb}
-use borrow.Author.Tests.{eqb-true, eqb-false, eq-eqb}
+use borrow.Author.Tests.{eqb-true, eqb-false}
 use Rattle.limits.specs.Limits.{tenants}
 use Rattle.lists.specs.Below.{nth}
 use Rattle.lists.proofs.Tests.{byBool}
@@ -17,7 +18,6 @@ use Rattle.counters.specs.Counter.{grown, counted, inBounds}
 use Rattle.counters.proofs.Counters.{grown-none, grown-twice, grown-fresh, counted-long, counted-own, counted-other, counted-bounds}
 use Rattle.table.specs.declared.Table.{Table}
 use Rattle.table.specs.Parts.{empty, withCounters, openedOf}
-use Rattle.table.specs.Sound.{sound}
 use Rattle.table.proofs.Soundness.{sound-facts}
 use Rattle.upkeep.specs.Upkeep.{withOpened}
 use Rattle.replies.specs.Refusal.{Row, firstOf}
@@ -25,7 +25,7 @@ use Rattle.replies.specs.declared.Reply.{Reply}
 use Rattle.replies.specs.Reply.{replyBy}
 use Rattle.replies.proofs.Refusals.{settle-yes, settle-no, settle-either}
 use Rattle.replies.proofs.Answers.{reply-done}
-use Rattle.lookup.specs.Lookup.{lookupReply, lookupTable}
+use Rattle.lookup.specs.Lookup.{lookupTable}
 use Rattle.lookup.proofs.Counting.{opened-none}
 use Rattle.deletion.specs.Deletion.{deleteRows, deleteReply, deleteMedium}
 use Rattle.planning.specs.WriteRows.{writeRows}
@@ -39,7 +39,7 @@ use Rattle.batch.proofs.Counting.{batch-left}
 use Rattle.archive.proofs.Counters.{addServer-counters, reweight-counters, write-counters, addServer-apart, reweight-apart, write-apart, addServer-unread, reweight-unread, write-unread, delete-unread, lookup-unread, batch-unread}
 use Rattle.history.specs.Call.{Call, addServer, reweight, write, delete, lookup, batch}
 use Rattle.history.specs.Machine.{State, inBrief, reply, next, after, replies, startState}
-use Rattle.history.specs.Counters.{openedTo, openedBy, Counters, Refused, Apart, Unread}
+use Rattle.history.specs.Counters.{openedTo, openedBy, Counters, Refused, Apart, Answered, Unread}
 
 -- one call: a tenant's counter grows by what it is answered
 module _ (tenant : ℕ) where
@@ -110,23 +110,25 @@ by-rows : (rows : List Row) (done r : Reply) → r ≡ replyBy rows done → don
 by-rows rows done r e d n z = n (ap (λ (x : Reply). x .refusal) (e ∙ reply-done rows z done) ∙ d)
 
 -- its table is as lent
-whole : (S : State) (c : Call) → next S c .medium ≡ S .medium → next S c .table ≡ S .table → Refused S c
-whole S c e f = record { medium = e; table = λ _. f; others = ap (λ (t : Table). withCounters t (S .table .counters)) f }
+abbrev Left : State → Call → Type 0
+Left S c = (next S c .medium ≡ S .medium) × (reply S c .opened ≡ 0 → next S c .table ≡ S .table) × (withCounters (next S c .table) (S .table .counters) ≡ S .table)
 
-pub refused-keeps : (S : State) (c : Call) → reply S c .refusal ≢ 0 → Refused S c
+whole : (S : State) (c : Call) → next S c .medium ≡ S .medium → next S c .table ≡ S .table → Left S c
+whole S c e f = (e, λ _. f, ap (λ (t : Table). withCounters t (S .table .counters)) f)
+
+left : (S : State) (c : Call) → reply S c .refusal ≢ 0 → Left S c
 unfolding reply next addServerReply addServerTable reweightReply reweightTable writeReply writeTable writeMedium deleteReply deleteMedium lookupTable withOpened
-refused-keeps S (addServer weight) n = whole S (addServer weight) refl (settle-no (addServerRows (S .table) (S .medium) weight) _ _ (by-rows _ _ _ refl refl n))
-refused-keeps S (reweight server weight) n = whole S (reweight server weight) refl (settle-no (reweightRows (S .table) server weight) _ _ (by-rows _ _ _ refl refl n))
-refused-keeps S (write caller id value) n =
+left S (addServer weight) n = whole S (addServer weight) refl (settle-no (addServerRows (S .table) (S .medium) weight) _ _ (by-rows _ _ _ refl refl n))
+left S (reweight server weight) n = whole S (reweight server weight) refl (settle-no (reweightRows (S .table) server weight) _ _ (by-rows _ _ _ refl refl n))
+left S (write caller id value) n =
     let f = by-rows (writeRows (S .table) (S .medium) caller id value) _ _ refl refl n in
     whole S (write caller id value) (settle-no _ _ _ f) (settle-no _ _ _ f)
-refused-keeps S (delete caller id) n = whole S (delete caller id) (settle-no (deleteRows (S .table) (S .medium) caller id) _ _ (by-rows _ _ _ refl refl n)) refl
-refused-keeps S (lookup caller id) n = record {
-  medium = refl;
-  table = λ z. ap (withOpened (S .table) caller) z ∙ opened-none (S .table) caller;
-  others = refl;
-}
-refused-keeps S (batch caller ids) n = whole S (batch caller ids) refl (batch-left (S .table) (S .medium) caller ids (answered (S .table) (S .medium) caller ids n))
+left S (delete caller id) n = whole S (delete caller id) (settle-no (deleteRows (S .table) (S .medium) caller id) _ _ (by-rows _ _ _ refl refl n)) refl
+left S (lookup caller id) n = (refl, λ z. ap (withOpened (S .table) caller) z ∙ opened-none (S .table) caller, refl)
+left S (batch caller ids) n = whole S (batch caller ids) refl (batch-left (S .table) (S .medium) caller ids (answered (S .table) (S .medium) caller ids n))
+
+pub refused-keeps : (S : State) (c : Call) → Refused S c
+refused-keeps S c = record { medium = λ n. left S c n .0; table = λ n. left S c n .1; others = λ n. left S c n .2 }
 
 -- a state with other counters
 abbrev with-counters : State → List ℕ → State
@@ -196,7 +198,7 @@ beside-batch S T a tenant ids =
     subst (λ (X : State). batchReply (X .table) (X .medium) tenant ids ≡ batchReply (S .table) (S .medium) tenant ids) (beside-is S T a)
     (batch-unread (S .table) (T .table .counters) (a .bounds) (S .medium) tenant ids)
 
-beside-unread : (calls : List Call) (S T : State) → Beside S T → Unread S T calls
+beside-unread : (calls : List Call) (S T : State) → Beside S T → Answered S T calls
 unfolding replies after
 beside-unread [] S T a = record { same = refl; batches = beside-batch S T a; apart = a .apart }
 beside-unread (c ∷ calls) S T a =
@@ -208,5 +210,7 @@ beside-unread (c ∷ calls) S T a =
       apart = more .apart;
     }
 
-pub counters-unread : (calls : List Call) (S T : State) → Apart S T → sound (S .table) ≡ true → sound (T .table) ≡ true → Unread S T calls
-counters-unread calls S T a s t = beside-unread calls S T (record { apart = a; bounds = sound-facts (T .table) t .bounds ∙ sym (sound-facts (S .table) s .bounds) })
+pub counters-unread : (calls : List Call) (S T : State) → Unread S T calls
+counters-unread calls S T = record {
+  unread = λ a s t. beside-unread calls S T (record { apart = a; bounds = sound-facts (T .table) t .bounds ∙ sym (sound-facts (S .table) s .bounds) });
+}

@@ -1,5 +1,5 @@
--- Shelves opened, club by club (document 02, item 5): what the counters are after every list of calls, what a refused call changes, and
--- that no call answers by a counter.
+-- Shelves opened, club by club (document 02, item 5): what the counters are after every list of calls, what a refused call changes,
+-- and that no call answers by a counter.
 use Prim.Native.Nat.{ℕ, _+_, _<_, min}
 use mathlib.Core.Bool.{true, cond}
 use mathlib.Core.Path.{_≡_}
@@ -9,7 +9,6 @@ use lib.Dec.{eqb}
 use Rattle.limits.specs.Limits.{tenants, maxCounter}
 use Rattle.table.specs.Parts.{withCounters, openedOf}
 use Rattle.table.specs.Sound.{sound}
-use Rattle.replies.specs.declared.Reply.{Reply}
 use Rattle.lookup.specs.Lookup.{lookupReply}
 use Rattle.batch_answer.specs.Answer.{openedIn}
 use Rattle.batch.specs.Batch.{batchReply}
@@ -37,19 +36,22 @@ pub record Counters (capacity salt : ℕ) (m : List ℕ) (calls : List Call) : T
 
 -- a refused call leaves medium and table as lent, but for the counters where it is a lookup that opened servers
 pub record Refused (S : State) (c : Call) : Type 0 where
-  pub medium : next S c .medium ≡ S .medium
-  pub table : reply S c .opened ≡ 0 → next S c .table ≡ S .table
-  pub others : withCounters (next S c .table) (S .table .counters) ≡ S .table
+  pub medium : reply S c .refusal ≢ 0 → next S c .medium ≡ S .medium
+  pub table : reply S c .refusal ≢ 0 → reply S c .opened ≡ 0 → next S c .table ≡ S .table
+  pub others : reply S c .refusal ≢ 0 → withCounters (next S c .table) (S .table .counters) ≡ S .table
 
 -- two states that differ in the counters alone
 pub record Apart (S T : State) : Type 0 where
   pub table : T .table ≡ withCounters (S .table) (T .table .counters)
   pub medium : T .medium ≡ S .medium
 
--- where both tables are sound, a list of calls gets the same replies from both, a batch after it the same answer, and they differ in
--- the counters alone again
-pub record Unread (S T : State) (calls : List Call) : Type 0 where
+-- a list of calls gets the same replies from both, a batch after it the same answer, and they differ in the counters alone again
+pub record Answered (S T : State) (calls : List Call) : Type 0 where
   pub same : replies T calls ≡ replies S calls
   pub batches : (tenant : ℕ) (ids : List ℕ)
       → batchReply (after T calls .table) (after T calls .medium) tenant ids ≡ batchReply (after S calls .table) (after S calls .medium) tenant ids
   pub apart : Apart (after S calls) (after T calls)
+
+-- it is so where both tables are sound
+pub record Unread (S T : State) (calls : List Call) : Type 0 where
+  pub unread : Apart S T → sound (S .table) ≡ true → sound (T .table) ≡ true → Answered S T calls

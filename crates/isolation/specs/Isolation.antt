@@ -1,5 +1,5 @@
--- Neighbours are invisible (document 02, items 2 and 5): over two histories a tenant, the paper's club, gets the same, and its counter
--- is the same.
+-- Neighbours are invisible (document 02, items 2 and 5): over two histories a tenant, the paper's club, gets the same, and its
+-- counter is the same.
 use Prim.Native.Nat.{ℕ, _<_}
 use mathlib.Core.Path.{_≡_}
 use mathlib.Core.List.{List}

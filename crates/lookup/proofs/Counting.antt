@@ -1,5 +1,5 @@
--- What a lookup makes of the counters: a refusal before the search leaves the table as lent, and every other lookup counts the servers that
--- its search opened.
+-- What a lookup makes of the counters: a refusal before the search leaves the table as lent, and every other lookup counts the
+-- servers that its search opened.
 -- Assumes nothing.
 use Prim.Native.Nat.{ℕ}
 use mathlib.Core.Path.{_≡_, refl, ap, _∙_}

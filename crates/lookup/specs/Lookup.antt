@@ -34,7 +34,7 @@ lookupReply t m tenant id =
     let s = searchFor t m id in
     replyBy (lookupRows t m tenant id) (metReply (t .capacity) m (length (s .opened)) (s .met))
 
--- the caller's counter takes the servers that were opened, whether the lookup is accepted or refused; one that is refused before its
--- search has opened none
+-- the caller's counter takes the servers that were opened, whether the lookup is accepted or refused; one that is refused before
+-- its search has opened none
 unfoldable pub lookupTable : Table → List ℕ → ℕ → ℕ → Table
 lookupTable t m tenant id = withOpened t tenant (lookupReply t m tenant id .opened)

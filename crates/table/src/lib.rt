@@ -1,5 +1,7 @@
 // The table of servers, by value: an empty one, and whether one is sound.
 ghost use mathlib.Core.Path.{_≡_};
+ghost use Prim.Native.Nat.{_≤_};
+ghost use Rattle.limits.specs.Limits.{maxSum};
 ghost use Rattle.placement.specs.Rule.{shareOf};
 ghost use Rattle.table.specs.Parts.{tableOf, Whole, empty};
 ghost use Rattle.table.specs.Sound.{inRange, readSound, sound};
@@ -68,6 +70,8 @@ pub fn in_range(capacity: u32, salt: u32) -> bool
 
 // Whether a ReadP is in range and at least WriteP of a server with this weight, `sum` being the weights of the servers up to it.
 fn read_sound(read: Fraction, server: usize, weight: u32, sum: u32) -> bool
+    requires { ⌜ (weight ≤ maxSum) × (sum ≤ maxSum) ⌝ }
+    requires { ⌜ (server ≡ 0 → sum ≡ weight) ⌝ }
     ensures { λ r. ⌜ r ≡ readSound read (shareOf server weight sum) ⌝ }
 {
     if read.den < 1 {

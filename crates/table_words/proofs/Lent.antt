@@ -4,10 +4,9 @@ use Prim.Native.Nat.{ℕ, _+_, _≤_}
 use mathlib.Core.Path.{_≡_, refl, sym, ap, _∙_}
 use mathlib.Core.List.{List, [], _∷_, _++_, append-assoc}
 use native.Mathlib.Omega.{arith}
-use lib.ListN.{length, take, drop, set, length-append, length-take, length-drop}
+use lib.ListN.{length, drop, set, length-append, length-take, length-drop}
 use lib.Seq.{take-all, take-at, drop-append-add, drop-drop, sets-eq, paste}
 use borrow.Author.Tests.{le-ltb}
-use Rattle.lists.specs.Below.{nth}
 use Rattle.lists.specs.Array.{arrayAt}
 use Rattle.lists.proofs.Arrays.{arrayAt-whole}
 use Rattle.table.specs.declared.Table.{Table}

@@ -2,7 +2,6 @@
 use mathlib.Core.Path.{_≡_, ap, _∙_}
 use borrow.Author.Needs.{needs}
 use Rattle.upkeep.specs.Upkeep.{withOpened}
-use Rattle.batch_answer.specs.declared.Batch.{Batch}
 use Rattle.batch_answer.specs.Answer.{openedIn}
 use Rattle.batch.specs.Batch.{batchTable}
 use Rattle.batch.proofs.lookup_batch.Statement.{statement}

@@ -1,5 +1,5 @@
 -- `batch_words::look_up` meets its contract: the parts of the words are the columns of the table.
-use mathlib.Core.Path.{_≡_, ap, _∙_}
+use mathlib.Core.Path.{ap, _∙_}
 use borrow.Author.Needs.{needs}
 use Rattle.table.specs.declared.Table.{Table}
 use Rattle.table.specs.declared.Shape.{Shape}

@@ -1,11 +1,8 @@
 -- `counters::count` meets its contract: a tenant's counter grows, and a number past the counters changes none.
-use mathlib.Core.Path.{_≡_, sym}
-use native.Mathlib.Omega.{arith}
-use lib.ListN.{set}
+use mathlib.Core.Path.{sym}
 use lib.Seq.{set-out}
 use borrow.Author.Needs.{needs}
-use Rattle.lists.specs.Below.{nth}
-use Rattle.counters.specs.Counter.{grown, counted}
+use Rattle.counters.specs.Counter.{counted}
 use Rattle.counters.proofs.count.Statement.{statement}
 use Rattle.counters.proofs.count.Tie as tie
 

@@ -1,37 +1,33 @@
--- `counters::in_bounds` meets its contract. The invariant: no counter passed is above its bound.
-use Prim.Native.Nat.{ℕ, _-_, _≤_}
-use mathlib.Core.Path.{_≡_, refl, sym}
-use mathlib.Core.Bool.{true}
+-- `counters::in_bounds` meets its contract. The invariant: whether no counter passed is above its bound.
+use Prim.Native.Nat.{ℕ, _+_, _-_, _≤_}
+use mathlib.Core.Path.{_≡_, refl}
+use mathlib.Core.Bool.{Bool, _&&_, and-comm}
+use native.Mathlib.Numerals.{add-one}
 use native.Mathlib.Omega.{arith}
+use lib.ListN.{length}
 use lib.Dec.{leb}
 use borrow.Author.Needs.{needs}
-use borrow.Author.Tests.{le-leb, lt-leb}
 use Rattle.limits.specs.Limits.{tenants, maxCounter}
 use Rattle.lists.specs.Below.{nth, allBelow}
-use Rattle.lists.proofs.Below.{allBelow-more, allBelow-not}
 use Rattle.counters.specs.Counter.{inBounds}
 use Rattle.counters.proofs.in_bounds.Statement.{statement}
 use Rattle.counters.proofs.in_bounds.Tie as tie
 
 abbrev Inv-loop : tie.InvT-loop
-Inv-loop counters i₀ i = (i ≤ tenants) × (allBelow (λ k. leb (nth counters k) maxCounter) i ≡ true)
+Inv-loop counters within₀ i₀ within i = (i ≤ length counters) × (within ≡ allBelow (λ k. leb (nth counters k) maxCounter) i)
 
 abbrev μ-loop : tie.MeasureT-loop
-μ-loop counters i₀ i = tenants - i
+μ-loop counters within₀ i₀ within i = length counters - i
 
 loop-holds : tie.Need-loop-holds Inv-loop μ-loop
 unfolding allBelow
 loop-holds c = (search needs, refl)
 
-mul-if1 : tie.Need-mul-if1 Inv-loop μ-loop
-mul-if1 c = search needs
+mul-within : tie.Need-mul-within Inv-loop μ-loop
+mul-within c = search needs
 
-shared-slice-read-if1 : tie.Need-shared-slice-read-if1 Inv-loop μ-loop
-shared-slice-read-if1 c = search needs
-
-returns : tie.Need-returns Inv-loop μ-loop
-unfolding inBounds
-returns c = sym (allBelow-not _ tenants (c .before .before .before .loop .i) (search needs) (lt-leb _ _ (c .if1 .taken)))
+shared-slice-read-within : tie.Need-shared-slice-read-within Inv-loop μ-loop
+shared-slice-read-within c = search needs
 
 add-i : tie.Need-add-i Inv-loop μ-loop
 add-i c = search needs
@@ -39,16 +35,19 @@ add-i c = search needs
 loop-less : tie.Need-loop-less Inv-loop μ-loop
 loop-less c = search needs
 
-loop-again : tie.Need-loop-again Inv-loop μ-loop
-loop-again c =
-    let l = c .before .before .before in
-    (search needs, allBelow-more _ (l .loop .i) (l .loop .inv .1) (le-leb _ _ (c .if1 .left)))
+-- one counter more
+more : (p : ℕ → Bool) (i : ℕ) (within : Bool) → within ≡ allBelow p i → (within && p i) ≡ allBelow p (i + 1)
+unfolding allBelow
+more p i within e = rw (add-one, e) (and-comm (allBelow p i) (p i))
 
-returns-2 : tie.Need-returns-2 Inv-loop μ-loop
+loop-again : tie.Need-loop-again Inv-loop μ-loop
+loop-again c = let l = c .before .before in (search needs, more _ (l .loop .i) (l .loop .within) (l .loop .inv .1))
+
+returns : tie.Need-returns Inv-loop μ-loop
 unfolding inBounds
-returns-2 c =
+returns c =
     let e : c .before .loop .i ≡ tenants = omega arith in
-    sym (rw e at (c .before .loop .inv .1))
+    rw e at (c .before .loop .inv .1)
 
 pub in-bounds-spec : {M : Type 1} → statement M
 in-bounds-spec =
@@ -57,10 +56,9 @@ in-bounds-spec =
     Inv-loop
     μ-loop
     loop-holds
-    mul-if1
-    shared-slice-read-if1
-    returns
+    mul-within
+    shared-slice-read-within
     add-i
     loop-less
     loop-again
-    returns-2)
+    returns)

@@ -1,7 +1,6 @@
 -- `lookup::lookup` meets its contract: the lookup on borrowed columns, and then the count.
 use mathlib.Core.Path.{_≡_, ap, _∙_}
 use borrow.Author.Needs.{needs}
-use Rattle.table.specs.declared.Table.{Table}
 use Rattle.upkeep.specs.Upkeep.{withOpened}
 use Rattle.replies.specs.declared.Reply.{Reply}
 use Rattle.lookup.specs.Lookup.{lookupReply, lookupTable}

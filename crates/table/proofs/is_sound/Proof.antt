@@ -1,6 +1,6 @@
 -- `table::is_sound` meets its contract. The invariant: every server so far is sound, and the sum of the weights so far.
 use Prim.Native.Nat.{ℕ, _+_, _*_, _-_, _≤_}
-use mathlib.Core.Path.{_≡_, refl, sym, _∙_}
+use mathlib.Core.Path.{_≡_, refl, sym, ap, _∙_}
 use mathlib.Core.Bool.{Bool, true, false}
 use native.Mathlib.Omega.{arith}
 use borrow.Author.Needs.{needs}
@@ -130,8 +130,17 @@ mul-t34 c = search needs
 shared-slice-read-t36 : tie.Need-shared-slice-read-t36 Inv-loop μ-loop
 shared-slice-read-t36 c = search needs
 
+-- before server 0 there is no weight
+none-before : (weight : ℕ → ℕ) (i sum : ℕ) → i ≡ 0 → sum ≡ total weight i → sum ≡ 0
+unfolding total
+none-before weight i sum z e = e ∙ ap (total weight) z
+
 read-sound-requires : tie.Need-read-sound-requires Inv-loop μ-loop
-read-sound-requires c κs = search needs
+read-sound-requires c κs =
+    let five = c .before .before in
+    let l = five .before .before .before .before .before in
+    let light : weightOf (TL l) (l .loop .i) ≤ 65536 = omega (arith, five .before .before .if4 .left, l .loop .inv) in
+    ((omega (arith, light), omega (arith, light, l .loop .inv, five .before .before .before .before .loop-test .taken)), λ z. omega (arith, none-before (weightOf (TL l)) (l .loop .i) (l .loop .sum) z (l .loop .inv .4)))
 
 -- where the server's tests begin
 abbrev L : tie.After-read-sound Inv-loop μ-loop → tie.In-loop Inv-loop μ-loop
