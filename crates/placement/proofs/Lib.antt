@@ -1,3 +1,4 @@
 mod Product
 pub mod Fractions
 pub mod Rules
+pub mod Shares

@@ -2,8 +2,8 @@
 // crate knows no table and no medium.
 ghost use mathlib.Core.Path.{_≡_};
 ghost use mathlib.Core.Bool.{true};
-ghost use Prim.Native.Nat.{_<_, _≤_};
-ghost use Rattle.limits.specs.Limits.{maxServers, maxSum};
+ghost use Prim.Native.Nat.{_<_};
+ghost use Rattle.limits.specs.Limits.{maxServers};
 ghost use Rattle.lists.specs.Below.{nth, total};
 ghost use Rattle.draws.specs.Draw.{modulus, areSteps, drawOf};
 ghost use Rattle.placement.specs.Fraction.{exceeds, atLeast};
@@ -43,20 +43,6 @@ pub fn write_p(server: usize, weight: u32, sum: u32) -> Fraction
         num: weight,
         den: sum,
     }
-}
-
-// Whether a fraction is at least WriteP of a server with this weight, `sum` being as for write_p. A weight of 0 needs no case of
-// its own, since any fraction is at least 0; nor does server 0, whose WriteP is 1: its weight over itself, once one is added to
-// both. A branch for it would make a loop over servers too long to be put into its callers (docs/BENCHMARKS.md, "The counters").
-pub fn at_least_write_p(f: Fraction, server: usize, weight: u32, sum: u32) -> bool
-    requires { ⌜ (weight ≤ maxSum) × (sum ≤ maxSum) ⌝ }
-    requires { ⌜ (server ≡ 0 → sum ≡ weight) ⌝ }
-    ensures { λ r. ⌜ r ≡ atLeast f (shareOf server weight sum) ⌝ }
-{
-    let more: u32 = if server == 0 { 1 } else { 0 };
-    let num = weight + more;
-    let den = sum + more;
-    at_least(f, Fraction { num, den })
 }
 
 // Whether a server with this fraction takes an id under a salt: the fraction exceeds the server's draw. With WriteP it is the

@@ -1,8 +1,10 @@
 // The table of servers, by value: an empty one, and whether one is sound.
 ghost use mathlib.Core.Path.{_≡_};
+ghost use mathlib.Core.Bool.{true, cond};
 ghost use Prim.Native.Nat.{_≤_};
-ghost use Rattle.limits.specs.Limits.{maxSum};
-ghost use Rattle.placement.specs.Rule.{shareOf};
+ghost use lib.ListN.{length};
+ghost use lib.Dec.{leb, ltb};
+ghost use Rattle.lists.specs.Below.{nth};
 ghost use Rattle.table.specs.Parts.{tableOf, Whole, empty};
 ghost use Rattle.table.specs.Sound.{inRange, readSound, sound};
 use limits::CONTENT_RANGE;
@@ -68,11 +70,21 @@ pub fn in_range(capacity: u32, salt: u32) -> bool
     salt < CONTENT_RANGE
 }
 
-// Whether a ReadP is in range and at least WriteP of a server with this weight, `sum` being the weights of the servers up to it.
-fn read_sound(read: Fraction, server: usize, weight: u32, sum: u32) -> bool
-    requires { ⌜ (weight ≤ maxSum) × (sum ≤ maxSum) ⌝ }
-    requires { ⌜ (server ≡ 0 → sum ≡ weight) ⌝ }
-    ensures { λ r. ⌜ r ≡ readSound read (shareOf server weight sum) ⌝ }
+// Whether ReadP of server 0, if it is there, is at least 1, which is its WriteP.
+fn first_sound(count: usize, numerators: &[u32], denominators: &[u32]) -> bool
+    requires { ⌜ (1 ≤ length (now numerators)) × (1 ≤ length (now denominators)) ⌝ }
+    ensures { λ r. ⌜ r ≡ cond (ltb 0 count) (leb (nth (now (denominators .entry)) 0) (nth (now (numerators .entry)) 0)) true ⌝ }
+{
+    if count < 1 {
+        return true;
+    }
+    denominators[0] <= numerators[0]
+}
+
+// Whether a ReadP is in range and at least this weight over this sum. With `sum` the weights of the servers up to it, that is its
+// WriteP but for server 0, whose WriteP is 1, and for a weight of 0, where any ReadP is at least WriteP.
+fn read_sound(read: Fraction, weight: u32, sum: u32) -> bool
+    ensures { λ r. ⌜ r ≡ readSound read (record { num = weight; den = sum }) ⌝ }
 {
     if read.den < 1 {
         return false;
@@ -83,7 +95,11 @@ fn read_sound(read: Fraction, server: usize, weight: u32, sum: u32) -> bool
     if read.num > read.den {
         return false;
     }
-    placement::at_least_write_p(read, server, weight, sum)
+    let write = Fraction {
+        num: weight,
+        den: sum,
+    };
+    placement::at_least(read, write)
 }
 
 // Whether a table of any bits is sound. It borrows the columns, so that a caller copies none.
@@ -107,6 +123,9 @@ pub fn is_sound<'a>(shape: Shape, columns: Columns<'a>) -> bool
     if !counters::in_bounds(columns[4]) {
         return false;
     }
+    if !first_sound(count, numerators, denominators) {
+        return false;
+    }
     let mut sum: u32 = 0;
     let mut i: usize = 0;
     while i < count {
@@ -122,7 +141,7 @@ pub fn is_sound<'a>(shape: Shape, columns: Columns<'a>) -> bool
             num: numerators[i],
             den: denominators[i],
         };
-        if !read_sound(read, i, weight, sum) {
+        if !read_sound(read, weight, sum) {
             return false;
         }
         i += 1;

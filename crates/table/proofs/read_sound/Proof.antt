@@ -19,15 +19,15 @@ returns-3 c =
     let two = c .before .before in
     rw (le-leb _ _ (two .before .before .if1 .left), le-leb _ _ (two .if2 .left), lt-leb _ _ (c .if3 .taken))
 
-at-least-write-p-requires : tie.Need-at-least-write-p-requires
-at-least-write-p-requires c κs = search needs
+at-least-requires : tie.Need-at-least-requires
+at-least-requires c κs = search needs
 
 returns-4 : tie.Need-returns-4
 unfolding readSound
 returns-4 c =
     let three = c .before in
     let two = three .before .before in
-    rw (le-leb _ _ (two .before .before .if1 .left), le-leb _ _ (two .if2 .left), le-leb _ _ (three .if3 .left)) (c .at-least-write-p .ensures)
+    rw (le-leb _ _ (two .before .before .if1 .left), le-leb _ _ (two .if2 .left), le-leb _ _ (three .if3 .left)) (c .at-least .ensures)
 
 pub read-sound-spec : {M : Type 1} → statement M
-read-sound-spec = tie.close (tie.spec returns returns-2 returns-3 at-least-write-p-requires returns-4)
+read-sound-spec = tie.close (tie.spec returns returns-2 returns-3 at-least-requires returns-4)
