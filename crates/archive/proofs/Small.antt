@@ -12,7 +12,7 @@ use lib.Dec.{eqb}
 use Rattle.lists.specs.Below.{nth}
 use Rattle.lists.proofs.Tests.{byBool}
 use Rattle.lists.proofs.Below.{countBelow-le}
-use Rattle.medium.specs.Word.{tagOf}
+use Rattle.words.specs.Word.{tagOf}
 use Rattle.medium.specs.Entry.{valueAt}
 use Rattle.medium.specs.Burn.{marksOn, marksOver}
 use Rattle.table.specs.declared.Table.{Table}

@@ -5,7 +5,8 @@ use mathlib.Core.Path.{_≡_}
 use mathlib.Core.Logic.{⊎-elim}
 use mathlib.Core.List.{List, [], _∷_, List·Memᴰ, List·Memᴰ·not-nil, List·Memᴰ·cases-cons}
 use native.Mathlib.Omega.{arith}
-use Rattle.medium.specs.Word.{tagOf, replaced, deleted}
+use Rattle.words.specs.Word.{tagOf}
+use Rattle.medium.specs.Word.{replaced, deleted}
 use Rattle.medium.specs.Burn.{Burn, invalidations}
 use Rattle.table.specs.declared.Table.{Table}
 use Rattle.replies.specs.Refusal.{firstOf}

@@ -15,7 +15,7 @@ use Rattle.lists.proofs.Tests.{byBool}
 use Rattle.lists.proofs.Below.{countBelow-cong, countBelow-none, someBelow-in, someBelow-none}
 use Rattle.tenants.specs.Tenant.{outOfRange, ofAnother}
 use Rattle.placement.specs.Rule.{readable, takes}
-use Rattle.medium.specs.Word.{tagOf}
+use Rattle.words.specs.Word.{tagOf}
 use Rattle.medium.specs.Entry.{valueAt}
 use Rattle.table.specs.declared.Table.{Table}
 use Rattle.table.specs.Parts.{shapeOf, usedOf, readP, reads}

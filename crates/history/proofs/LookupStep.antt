@@ -14,7 +14,8 @@ use Rattle.lists.specs.Below.{countBelow}
 use Rattle.lists.proofs.Below.{countBelow-cong}
 use Rattle.tenants.specs.Tenant.{tenantOf}
 use Rattle.tenants.proofs.Tenants.{own-id, own-in-range}
-use Rattle.medium.specs.Word.{tagOf, contentOf, valueWord}
+use Rattle.words.specs.Word.{tagOf, contentOf}
+use Rattle.medium.specs.Word.{valueWord}
 use Rattle.medium.specs.Entry.{serverAt}
 use Rattle.table.specs.declared.Table.{Table}
 use Rattle.table.specs.Parts.{reads}

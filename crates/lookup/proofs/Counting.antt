@@ -11,7 +11,7 @@ use lib.Dec.{eqb}
 use Rattle.lists.specs.Below.{nth}
 use Rattle.lists.proofs.Tests.{byBool}
 use Rattle.counters.proofs.Counters.{counted-none}
-use Rattle.medium.specs.Word.{tagOf}
+use Rattle.words.specs.Word.{tagOf}
 use Rattle.medium.specs.Entry.{valueAt}
 use Rattle.table.specs.declared.Table.{Table}
 use Rattle.table.specs.Parts.{withCounters}

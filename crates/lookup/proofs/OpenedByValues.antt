@@ -13,7 +13,7 @@ use borrow.Author.Tests.{le-leb}
 use Rattle.lists.specs.Below.{nth, highest}
 use Rattle.lists.proofs.Tests.{and-i}
 use Rattle.lists.proofs.Below.{highest-cong}
-use Rattle.medium.specs.Word.{tagOf, contentOf}
+use Rattle.words.specs.Word.{tagOf, contentOf}
 use Rattle.medium.specs.Entry.{serverAt, entryAt, valueAt, live}
 use Rattle.medium.proofs.Places.{entry-in, entry-above}
 use Rattle.medium.proofs.Entries.{live-cong, live-used}

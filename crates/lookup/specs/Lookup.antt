@@ -8,7 +8,7 @@ use mathlib.Core.Option.{Option, none, some}
 use lib.ListN.{length}
 use lib.Dec.{eqb}
 use Rattle.lists.specs.Below.{nth}
-use Rattle.medium.specs.Word.{tagOf, contentOf}
+use Rattle.words.specs.Word.{tagOf, contentOf}
 use Rattle.medium.specs.Entry.{valueAt}
 use Rattle.table.specs.declared.Table.{Table}
 use Rattle.upkeep.specs.Upkeep.{withOpened}

@@ -8,7 +8,6 @@ ghost use Rattle.medium.specs.Entry.{Inside};
 ghost use Rattle.table.specs.Parts.{tableOf, Whole};
 ghost use Rattle.replies.specs.Reply.{replyOfLookup};
 ghost use Rattle.lookup.specs.Lookup.{metReply, lookupReply, lookupTable};
-use limits::CONTENT_RANGE;
 use replies::Check;
 use replies::LookupAnswer;
 use replies::Refusal;
@@ -36,8 +35,8 @@ pub fn met(
     ensures { λ r. ⌜ replyOfLookup r ≡ metReply capacity (now (medium .entry)) opened (some (record { server = server; entry = entry })) ⌝ }
 {
     let word = medium[medium::entry_at(capacity as usize, server, entry) + medium::VALUE_PLACE];
-    if word / CONTENT_RANGE == 1 {
-        LookupAnswer::Found(word % CONTENT_RANGE, opened)
+    if words::tag_of(word) == 1 {
+        LookupAnswer::Found(words::content_of(word), opened)
     } else {
         LookupAnswer::Refused(Refusal::Corrupt, opened)
     }

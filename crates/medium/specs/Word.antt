@@ -1,22 +1,17 @@
--- The words of the medium (document 01, "The discs"). The top two bits are a word's tag, which the paper calls its kind:
--- 0 id, 1 value, 2 mark, the paper's void. The low 30 bits are its content. No word of tag 3 but blank is ever written.
-use Prim.Native.Nat.{ℕ, _+_, _*_, _/_, _%_}
-use Rattle.limits.specs.Limits.{contentRange}
+-- The words of the medium (document 01, "The discs"). Their tags are 0 for an id, 1 for a value and 2 for a mark, the paper's
+-- void. No word of tag 3 but blank is ever written.
+use Prim.Native.Nat.{ℕ}
+use Rattle.words.specs.Word.{tagged}
 
-abbrev pub tagOf : ℕ → ℕ
-tagOf w = w / contentRange
-
-abbrev pub contentOf : ℕ → ℕ
-contentOf w = w % contentRange
-
+-- the tag 0 adds nothing
 abbrev pub idWord : ℕ → ℕ
 idWord id = id
 
 abbrev pub valueWord : ℕ → ℕ
-valueWord v = contentRange + v
+valueWord v = tagged 1 v
 
 abbrev pub markWord : ℕ → ℕ
-markWord content = 2 * contentRange + content
+markWord content = tagged 2 content
 
 -- the contents of a mark
 abbrev pub replaced : ℕ
