@@ -3,16 +3,17 @@
 use Prim.Native.Nat.{ℕ, _+_, _≤_, _<_, min}
 use mathlib.Core.Path.{_≡_, sym, ap, _∙_}
 use mathlib.Core.Logic.{_≢_}
+use mathlib.Core.Bool.{true}
 use mathlib.Core.List.{List}
 use native.Mathlib.Omega.{arith}
 use lib.ListN.{length, length-set}
 use lib.Seq.{getD-set-same, getD-set-other, set-getD, set-out, set-set}
-use lib.Dec.{eqb, ltb}
+use lib.Dec.{eqb, ltb, leb}
 use borrow.Author.Tests.{leb-true, le-leb, ltb-true, ltb-false, eqb-true, eqb-false}
 use Rattle.limits.specs.Limits.{tenants, maxCounter}
 use Rattle.lists.specs.Below.{nth}
 use Rattle.lists.proofs.Tests.{byBool, iff-eq}
-use Rattle.lists.proofs.Below.{allBelow-cong}
+use Rattle.lists.proofs.Below.{allBelow-out, allBelow-cong}
 use Rattle.counters.specs.Counter.{grown, counted, inBounds}
 
 -- adding with a stop at each step is capping the sum
@@ -88,3 +89,12 @@ counted-twice counters tenant a b = byBool (ltb tenant (length counters))
     set-out _ tenant _ (omega (arith, length-set counters tenant (grown (nth counters tenant) a), l))
     ∙ set-out counters tenant _ l
     ∙ sym (set-out counters tenant _ l))
+
+-- what counters within their bounds are, one by one; and those that are the same one by one are alike within them
+pub bounds-at : (counters : List ℕ) → inBounds counters ≡ true → (i : ℕ) → i < tenants → nth counters i ≤ maxCounter
+unfolding inBounds
+bounds-at counters b i l = leb-true (nth counters i) maxCounter (allBelow-out (λ i. leb (nth counters i) maxCounter) tenants b i l)
+
+pub bounds-cong : (counters others : List ℕ) → ((i : ℕ) → i < tenants → nth counters i ≡ nth others i) → inBounds counters ≡ inBounds others
+unfolding inBounds
+bounds-cong counters others h = allBelow-cong _ _ tenants (λ i l. ap (λ (x : ℕ). leb x maxCounter) (h i l))

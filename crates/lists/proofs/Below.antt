@@ -1,19 +1,19 @@
 -- Laws of testing, choosing, counting and adding among the numbers below n.
 -- Assumes nothing.
 use Prim.Native.Nat.{ℕ, zero, suc, _+_, _-_, _*_, _≤_, _<_}
-use mathlib.Core.List.{List, [], _∷_, _++_, List·Memᴰ, List·Memᴰ·head, List·Memᴰ·not-nil, List·Memᴰ·append-cases, List·Memᴰ·eq-of-singleton, Memᴰ·append-left, Memᴰ·append-right}
+use mathlib.Core.List.{List, [], _∷_, _++_, append-assoc, List·Memᴰ, List·Memᴰ·head, List·Memᴰ·not-nil, List·Memᴰ·append-cases, List·Memᴰ·eq-of-singleton, Memᴰ·append-left, Memᴰ·append-right}
 use mathlib.Core.Logic.{_⊎_, inl, inr}
-use lib.ListN.{length, set, replicate, length-set, length-replicate, length-append, getD-replicate}
-use lib.Seq.{sets, getD-set-same, getD-set-other, ext-getD}
+use lib.ListN.{length, set, replicate, length-set, length-replicate, length-append, getD-replicate, List·getD-append}
+use lib.Seq.{sets, getD-set-same, getD-set-other, getD-append-add, ext-getD}
 use mathlib.Core.Path.{_≡_, refl, sym, ap, _∙_, subst}
 use mathlib.Core.Bool.{Bool, true, false, cond, not, _&&_, _||_}
 use mathlib.Core.Option.{some}
-use native.Mathlib.Nat.{add-zero, add-suc, suc-add}
+use native.Mathlib.Nat.{add-zero, add-suc, suc-add, mul-zero, mul-suc}
 use native.Mathlib.Numerals.{add-one, sub-one}
 use native.Mathlib.Omega.{arith}
 use lib.Dec.{eqb, ltb}
 use borrow.Author.Tests.{eqb-true, eqb-false, ltb-true, ltb-false}
-use Rattle.lists.specs.Below.{nth, allBelow, someBelow, highest, orZero, upward, countBelow, total, setBelow}
+use Rattle.lists.specs.Below.{nth, allBelow, someBelow, highest, orZero, upward, countBelow, total, setBelow, joinBelow}
 use Rattle.lists.proofs.Tests.{byBool, true-not-false, and-l, and-r, and-i}
 
 -- k is below n where it is below suc n and n does not pass
@@ -127,6 +127,11 @@ allBelow-not p n k l e = byBool (allBelow p n) (λ d. absurd (true-not-false (al
 pub allBelow-more : (p : ℕ → Bool) (n : ℕ) → allBelow p n ≡ true → p n ≡ true → allBelow p (n + 1) ≡ true
 unfolding allBelow
 allBelow-more p n a b = rw (add-one, b, a)
+
+-- one number more, whether it passes or not
+pub allBelow-next : (p : ℕ → Bool) (n : ℕ) (here before : Bool) → here ≡ p n → before ≡ allBelow p n → here && before ≡ allBelow p (n + 1)
+unfolding allBelow
+allBelow-next p n here before e d = rw (add-one, e, d)
 
 pub allBelow-cong : (p q : ℕ → Bool) (n : ℕ) → ((k : ℕ) → k < n → p k ≡ q k) → allBelow p n ≡ allBelow q n
 unfolding allBelow
@@ -289,3 +294,32 @@ replicate-all x xs h = ext-getD 0 xs (replicate (length xs) x) (sym (length-repl
 pub sets-append : (l : List ℕ) (at : ℕ) (xs ys : List ℕ) → sets (sets l at xs) (at + length xs) ys ≡ sets l at (xs ++ ys)
 sets-append l at [] ys = rw add-zero
 sets-append l at (x ∷ xs) ys = rw (add-suc, ← suc-add, sets-append (set l at x) (suc at) xs ys)
+
+-- lists of one length, one after another: how long they are together, and where each stands
+module _ (width : ℕ) (f : ℕ → List ℕ) (each : (k : ℕ) → length (f k) ≡ width) where
+  pub length-join : (n : ℕ) → length (joinBelow f n) ≡ width * n
+  unfolding joinBelow
+  length-join zero = sym (mul-zero width)
+  length-join (suc n) = length-append (joinBelow f n) (f n) ∙ omega (arith, length-join n, each n, mul-suc width n)
+
+  pub join-at : (n : ℕ) (rest : List ℕ) (k i : ℕ) → k < n → i < width → nth (joinBelow f n ++ rest) (width * k + i) ≡ nth (f k) i
+  unfolding joinBelow
+  join-at zero rest k i l m = absurd (omega arith)
+  join-at (suc n) rest k i l m =
+      let apart : (joinBelow f n ++ f n) ++ rest ≡ joinBelow f n ++ (f n ++ rest) = append-assoc (joinBelow f n) (f n) rest in
+      byBool (eqb k n)
+      (λ e.
+      let here : k ≡ n = eqb-true k n e in
+      rw (apart, here, ← length-join n)
+      (getD-append-add (joinBelow f n) (f n ++ rest) i 0 ∙ List·getD-append (f n) rest 0 i (omega (arith, each n))))
+      (λ e. rw apart (join-at n (f n ++ rest) k i (omega (arith, eqb-false k n e)) m))
+
+-- one list more, as a loop counts
+pub join-more : (f : ℕ → List ℕ) (n : ℕ) → joinBelow f (n + 1) ≡ joinBelow f n ++ f n
+unfolding joinBelow
+join-more f n = rw add-one
+
+pub join-cong : (f g : ℕ → List ℕ) (n : ℕ) → ((k : ℕ) → k < n → f k ≡ g k) → joinBelow f n ≡ joinBelow g n
+unfolding joinBelow
+join-cong f g zero h = refl
+join-cong f g (suc n) h = rw (join-cong f g n (λ k l. h k (omega arith)), h n (omega arith))

@@ -52,3 +52,8 @@ total f (suc n) = total f n + f n
 unfoldable pub setBelow : (ℕ → ℕ) → ℕ → List ℕ → List ℕ
 setBelow f zero xs = xs
 setBelow f (suc n) xs = set (setBelow f n xs) n (f n)
+
+-- the lists f 0, .., f (n - 1), one after another
+unfoldable pub joinBelow : (ℕ → List ℕ) → ℕ → List ℕ
+joinBelow f zero = []
+joinBelow f (suc n) = joinBelow f n ++ f n

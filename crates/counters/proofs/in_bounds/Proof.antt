@@ -1,14 +1,14 @@
 -- `counters::in_bounds` meets its contract. The invariant: whether no counter passed is above its bound.
-use Prim.Native.Nat.{ℕ, _+_, _-_, _≤_}
-use mathlib.Core.Path.{_≡_, refl}
-use mathlib.Core.Bool.{Bool, _&&_, and-comm}
-use native.Mathlib.Numerals.{add-one}
+use Prim.Native.Nat.{_-_, _≤_}
+use mathlib.Core.Path.{_≡_, refl, _∙_}
+use mathlib.Core.Bool.{and-comm}
 use native.Mathlib.Omega.{arith}
 use lib.ListN.{length}
 use lib.Dec.{leb}
 use borrow.Author.Needs.{needs}
 use Rattle.limits.specs.Limits.{tenants, maxCounter}
 use Rattle.lists.specs.Below.{nth, allBelow}
+use Rattle.lists.proofs.Below.{allBelow-next}
 use Rattle.counters.specs.Counter.{inBounds}
 use Rattle.counters.proofs.in_bounds.Statement.{statement}
 use Rattle.counters.proofs.in_bounds.Tie as tie
@@ -35,13 +35,8 @@ add-i c = search needs
 loop-less : tie.Need-loop-less Inv-loop μ-loop
 loop-less c = search needs
 
--- one counter more
-more : (p : ℕ → Bool) (i : ℕ) (within : Bool) → within ≡ allBelow p i → (within && p i) ≡ allBelow p (i + 1)
-unfolding allBelow
-more p i within e = rw (add-one, e) (and-comm (allBelow p i) (p i))
-
 loop-again : tie.Need-loop-again Inv-loop μ-loop
-loop-again c = let l = c .before .before in (search needs, more _ (l .loop .i) (l .loop .within) (l .loop .inv .1))
+loop-again c = let l = c .before .before in (search needs, and-comm (l .loop .within) _ ∙ allBelow-next _ (l .loop .i) _ (l .loop .within) refl (l .loop .inv .1))
 
 returns : tie.Need-returns Inv-loop μ-loop
 unfolding inBounds
