@@ -19,10 +19,10 @@ use Rattle.medium.proofs.Marks.{marksOver-cong}
 use Rattle.table.specs.declared.Table.{Table}
 use Rattle.table.specs.Parts.{weightOf, usedOf, reads}
 use Rattle.table.specs.Sound.{sound}
+use Rattle.table.specs.Agree.{AgreeBelow}
 use Rattle.upkeep.specs.Upkeep.{withEntry, withOpened}
 use Rattle.table.proofs.Soundness.{Arrays, sound-facts}
 use Rattle.upkeep.proofs.Upkeep.{withServer-arrays, withWeight-arrays, withEntry-arrays, withOpened-arrays}
-use Rattle.table.proofs.Agreement.{AgreeBelow}
 use Rattle.upkeep.proofs.KeptSound.{withServer-sound, withWeight-sound, withEntry-sound, withOpened-sound}
 use Rattle.upkeep.proofs.KeptAgreeing.{agree-withServer, agree-withWeight, agree-withEntry, agree-withOpened}
 use Rattle.replies.specs.Refusal.{firstOf}

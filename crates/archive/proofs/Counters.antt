@@ -13,7 +13,7 @@ use Rattle.counters.proofs.Counters.{counted-twice, counted-bounds}
 use Rattle.table.specs.declared.Table.{Table}
 use Rattle.table.specs.Parts.{withCounters}
 use Rattle.table.specs.Sound.{sound}
-use Rattle.table.proofs.Agreement.{AgreeBelow}
+use Rattle.table.specs.Agree.{AgreeBelow}
 use Rattle.upkeep.specs.Upkeep.{withServer, withWeight, withEntry, withOpened}
 use Rattle.upkeep.proofs.KeptSound.{counters-sound}
 use Rattle.replies.specs.declared.Reply.{Reply}

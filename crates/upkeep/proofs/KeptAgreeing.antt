@@ -9,8 +9,8 @@ use Rattle.placement.specs.Rule.{writeP}
 use Rattle.placement.proofs.Rules.{writeP-cong}
 use Rattle.table.specs.declared.Table.{Table}
 use Rattle.table.specs.Parts.{weightOf, usedOf, readP}
+use Rattle.table.specs.Agree.{AgreeBelow}
 use Rattle.table.proofs.Soundness.{Arrays}
-use Rattle.table.proofs.Agreement.{AgreeBelow}
 use Rattle.upkeep.specs.Upkeep.{withServer, withWeight, withEntry, withOpened}
 use Rattle.upkeep.proofs.Upkeep.{withServer-is, withWeight-is, withEntry-is}
 
