@@ -8,7 +8,7 @@ use lib.Dec.{eqb}
 use borrow.Author.Tests.{eqb-true}
 use Rattle.lists.proofs.Tests.{byBool}
 use Rattle.replies.specs.declared.Refusal.{Refusal}
-use Rattle.replies.specs.declared.Refusal.the-variants.{UnsoundTable, OutOfRange, NoSuchServer, TooManyServers, ShortMedium, ServerFull, NotBlank, NotFound, ExceedsFree, Corrupt, OtherTenant}
+use Rattle.replies.specs.declared.Refusal.the-variants.{UnsoundTable, OutOfRange, NoSuchServer, TooManyServers, ShortMedium, ServerFull, NotBlank, NotFound, ExceedsFree, Corrupt, OtherTenant, BadImage, ShortDestination}
 use Rattle.replies.specs.Refusal.{Row, firstOf, settle}
 use Rattle.replies.specs.declared.Reply.{Reply}
 use Rattle.replies.specs.declared.Check.{Check}
@@ -30,6 +30,8 @@ number-not-zero NotFound e = omega arith
 number-not-zero ExceedsFree e = omega arith
 number-not-zero Corrupt e = omega arith
 number-not-zero OtherTenant e = omega arith
+number-not-zero BadImage e = omega arith
+number-not-zero ShortDestination e = omega arith
 
 -- what a check that is matched on says of the rows it stands for
 module _ (rows : List Row) {a : Check} (e : checkNumber a ≡ firstOf rows) where

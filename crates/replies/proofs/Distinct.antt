@@ -5,7 +5,7 @@ use mathlib.Core.Path.{_≡_, refl, sym, ap, ap₂, _∙_}
 use mathlib.Core.Bool.{cond}
 use lib.Dec.{eqb}
 use Rattle.replies.specs.declared.Refusal.{Refusal}
-use Rattle.replies.specs.declared.Refusal.the-variants.{UnsoundTable, OutOfRange, NoSuchServer, TooManyServers, ShortMedium, ServerFull, NotBlank, NotFound, ExceedsFree, Corrupt, OtherTenant}
+use Rattle.replies.specs.declared.Refusal.the-variants.{UnsoundTable, OutOfRange, NoSuchServer, TooManyServers, ShortMedium, ServerFull, NotBlank, NotFound, ExceedsFree, Corrupt, OtherTenant, BadImage, ShortDestination}
 use Rattle.replies.specs.declared.Reply.{Reply}
 use Rattle.replies.specs.declared.Check.{Check}
 use Rattle.replies.specs.declared.Check.the-variants as check
@@ -33,7 +33,9 @@ refusalOf n =
     (cond (eqb n 8) NotFound
     (cond (eqb n 9) ExceedsFree
     (cond (eqb n 10) Corrupt
-    OtherTenant)))))))))
+    (cond (eqb n 11) OtherTenant
+    (cond (eqb n 12) BadImage
+    ShortDestination)))))))))))
 
 back : (r : Refusal) → refusalOf (numberOf r) ≡ r
 unfolding refusalOf numberOf
@@ -48,6 +50,8 @@ back NotFound = refl
 back ExceedsFree = refl
 back Corrupt = refl
 back OtherTenant = refl
+back BadImage = refl
+back ShortDestination = refl
 
 pub numbers-apart : (r s : Refusal) → numberOf r ≡ numberOf s → r ≡ s
 numbers-apart r s e = sym (back r) ∙ ap refusalOf e ∙ back s

@@ -2,7 +2,7 @@
 use Prim.Native.Nat.{ℕ}
 use mathlib.Core.List.{List}
 use Rattle.replies.specs.declared.Refusal.{Refusal}
-use Rattle.replies.specs.declared.Refusal.the-variants.{UnsoundTable, OutOfRange, NoSuchServer, TooManyServers, ShortMedium, ServerFull, NotBlank, NotFound, ExceedsFree, Corrupt, OtherTenant}
+use Rattle.replies.specs.declared.Refusal.the-variants.{UnsoundTable, OutOfRange, NoSuchServer, TooManyServers, ShortMedium, ServerFull, NotBlank, NotFound, ExceedsFree, Corrupt, OtherTenant, BadImage, ShortDestination}
 use Rattle.replies.specs.declared.Reply.{Reply}
 use Rattle.replies.specs.declared.Check.{Check}
 use Rattle.replies.specs.declared.Check.the-variants as check
@@ -45,6 +45,8 @@ numberOf NotFound = 8
 numberOf ExceedsFree = 9
 numberOf Corrupt = 10
 numberOf OtherTenant = 11
+numberOf BadImage = 12
+numberOf ShortDestination = 13
 
 unfoldable pub checkNumber : Check → ℕ
 checkNumber check.Accepted = 0

@@ -19,7 +19,8 @@ pub const DELETE: u32 = 4;
 
 pub const LOOKUP: u32 = 5;
 
-// Why a call is refused: a case for each number, in their order from 1 to 11. 1 to 10 are document 01's, 11 is document 02's.
+// Why a call is refused: a case for each number, in their order from 1 to 13. 1 to 10 are document 01's, the others
+// document 02's.
 pub enum Refusal {
     // 1, foreign table: the table is not sound.
     UnsoundTable,
@@ -43,6 +44,10 @@ pub enum Refusal {
     Corrupt,
     // 11, another club's ticket: the id is another tenant's than the caller's.
     OtherTenant,
+    // 12, bad sheet: no sound table has these words as its image.
+    BadImage,
+    // 13, destination short: it has fewer words than the image.
+    ShortDestination,
 }
 
 // What the tests before a call say, and the answer of start.

@@ -24,6 +24,8 @@ fn refusal_number(refusal: Refusal) -> u32
         Refusal::ExceedsFree => 9,
         Refusal::Corrupt => 10,
         Refusal::OtherTenant => 11,
+        Refusal::BadImage => 12,
+        Refusal::ShortDestination => 13,
     }
 }
 

@@ -38,6 +38,12 @@ enum-told-10 c = search needs
 enum-told-11 : tie.Need-enum-told-11
 enum-told-11 c = search needs
 
+enum-told-12 : tie.Need-enum-told-12
+enum-told-12 c = search needs
+
+enum-told-13 : tie.Need-enum-told-13
+enum-told-13 c = search needs
+
 returns : tie.Need-returns
 unfolding numberOf
 returns c = ap numberOf (sym (c .enum-told .given .1))
@@ -82,6 +88,14 @@ returns-11 : tie.Need-returns-11
 unfolding numberOf
 returns-11 c = ap numberOf (sym (c .enum-told11 .given .1))
 
+returns-12 : tie.Need-returns-12
+unfolding numberOf
+returns-12 c = ap numberOf (sym (c .enum-told12 .given .1))
+
+returns-13 : tie.Need-returns-13
+unfolding numberOf
+returns-13 c = ap numberOf (sym (c .enum-told13 .given .1))
+
 pub refusal-number-spec : {M : Type 1} → statement M
 refusal-number-spec =
     tie.close
@@ -97,6 +111,8 @@ refusal-number-spec =
     enum-told-9
     enum-told-10
     enum-told-11
+    enum-told-12
+    enum-told-13
     returns
     returns-2
     returns-3
@@ -107,4 +123,6 @@ refusal-number-spec =
     returns-8
     returns-9
     returns-10
-    returns-11)
+    returns-11
+    returns-12
+    returns-13)
