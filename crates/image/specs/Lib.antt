@@ -1,0 +1,4 @@
+pub mod Layout
+pub mod Encoding
+pub mod Decoding
+pub mod Promises
