@@ -12,10 +12,11 @@ ghost use Rattle.replay.specs.Replay.{callsBelow, withReplies, runs, replyAt, L
 ghost use Rattle.call_words.specs.CallWords.{lent, afterCall};
 ghost use Rattle.replay.specs.Lent.{resumes};
 ghost use Rattle.batch_words.specs.BatchWords.{afterBatch};
+ghost use Rattle.image_words.specs.ImageWords.{afterEncode, decodeNumber, afterDecode};
 ghost use Rattle.embed.specs.Embed.{version, startNumber};
 
 // The version of the interface: it grows when a signature or an encoding changes.
-const VERSION: u32 = 4;
+const VERSION: u32 = 5;
 
 #[no_mangle]
 pub extern "C" fn archive_abi() -> u32
@@ -144,4 +145,23 @@ pub extern "C" fn archive_lookup_batch(
         (now (mounts .entry)) .mounts ⌝ }
 {
     batch_words::lookup_batch(table, medium, tenant, ids, replies, order, mounts)
+}
+
+// Stores the image of a table, by which it is carried, and how many words it has.
+#[no_mangle]
+pub extern "C" fn archive_encode(table: &[u32], image: &mut [u32], length: &mut [u32]) -> u32
+    ensures number { λ r. ⌜ r ≡ afterEncode (now (table .entry)) (now (image .entry)) (now (length .entry)) .number ⌝ }
+    ensures image { λ _. ⌜ now (image .exit) ≡ afterEncode (now (table .entry)) (now (image .entry)) (now (length .entry)) .destination ⌝ }
+    ensures length { λ _. ⌜ now (length .exit) ≡ afterEncode (now (table .entry)) (now (image .entry)) (now (length .entry)) .size ⌝ }
+{
+    image_words::encode(table, image, length)
+}
+
+// Stores the table of an image, or one of all zeros where the words are the image of no sound table.
+#[no_mangle]
+pub extern "C" fn archive_decode(image: &[u32], table: &mut [u32]) -> u32
+    ensures number { λ r. ⌜ r ≡ decodeNumber (now (image .entry)) (now (table .entry)) ⌝ }
+    ensures table { λ _. ⌜ now (table .exit) ≡ afterDecode (now (image .entry)) (now (table .entry)) ⌝ }
+{
+    image_words::decode(image, table)
 }
