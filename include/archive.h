@@ -5,7 +5,8 @@
  *
  *   table   ARCHIVE_TABLE_WORDS words. It says which servers there are, their weights and how many entries of each are
  *           used, keeps the archive's salt, and counts for each tenant the servers that its lookups opened. archive_start makes
- *           one; the caller keeps it from call to call, and may store it and lend it again later.
+ *           one; the caller keeps it from call to call, and may store it and lend it again later. archive_encode turns it into
+ *           an image, a shorter form to be stored or carried, and archive_decode turns an image into a table.
  *   medium  the discs, as one run of words. Server k has ARCHIVE_SERVER_WORDS(capacity) words from
  *           k * ARCHIVE_SERVER_WORDS(capacity) on. Before its server is added every word must be ARCHIVE_BLANK.
  *
@@ -30,15 +31,16 @@ extern "C" {
 #endif
 
 /*
- * The version of this interface. It grows when a signature or an encoding changes; archive_abi() answers the library's own. The
- * number of a call or of a refusal never gets another meaning. Version 2 has tenants: word 1 of a call, an argument of
- * archive_lookup_batch, and refusal 11. Version 3 has a salt: an argument of archive_start, archive_replay and archive_picks, and
- * word 1 of the table. Version 2 filed as salt 0 does: its tables are those of version 3 once a 0 is put in after their first
- * word. Version 4 has counters: eight words more at the end of the table, which lookups and archive_lookup_batch change, so that
- * the latter takes a table that it may write to. The tables of version 3 are those of version 4 once eight zeros are put after
- * their last word.
+ * The version of this interface. It grows when a signature or an encoding changes or a function is added; archive_abi() answers
+ * the library's own. The number of a call or of a refusal never gets another meaning. Version 2 has tenants: word 1 of a call, an
+ * argument of archive_lookup_batch, and refusal 11. Version 3 has a salt: an argument of archive_start, archive_replay and
+ * archive_picks, and word 1 of the table. Version 2 filed as salt 0 does: its tables are those of version 3 once a 0 is put in
+ * after their first word. Version 4 has counters: eight words more at the end of the table, which lookups and
+ * archive_lookup_batch change, so that the latter takes a table that it may write to. The tables of version 3 are those of
+ * version 4 once eight zeros are put after their last word. Version 5 has images: archive_encode, archive_decode, and refusals 12
+ * and 13. Nothing of version 4 changed: its tables, calls and replies are those of version 5.
  */
-#define ARCHIVE_ABI 4u
+#define ARCHIVE_ABI 5u
 
 /* How many words a table, a call and a reply have. */
 #define ARCHIVE_TABLE_WORDS 1035u
@@ -76,6 +78,28 @@ extern "C" {
 #define ARCHIVE_MAX_COUNTER 1073741823u
 
 /*
+ * An image is what counts of a sound table, as a run of words to be kept on the caller's disc from one run of a program to the
+ * next, or carried elsewhere with the medium. The servers that were never added are not in it, so that a table of few servers has
+ * a short one. The top two bits of each word are its tag, and the low 30 its content:
+ *
+ *   tag 0 capacity, tag 1 salt;
+ *   for each server, from server 0 on: tag 1 weight, tag 2 entries used, tag 0 and tag 1 the numerator and the denominator of the
+ *   fraction that says which ids are looked for there;
+ *   tag 2 the counter of each tenant, from tenant 0 on.
+ *
+ * How many servers there are is told by the length alone: the image of a table of `count` servers has ARCHIVE_IMAGE_WORDS(count)
+ * words, and that of 256 servers has the most. Words whose number, tags or contents are no sound table's are refused as a whole,
+ * by ARCHIVE_BAD_IMAGE. This tells most damage, such as a word that was lost, moved or put in the place of another. It is no
+ * checksum: a counter that was changed to another counter makes the image of another table. In which order the bytes of a word
+ * are stored is up to the caller.
+ *
+ * Calls take tables and no images: a table that is lent has the layout of archive_start, and words that are stored in that layout
+ * may still be lent again.
+ */
+#define ARCHIVE_IMAGE_WORDS(count) ((size_t)10 + (size_t)4 * (size_t)(count))
+#define ARCHIVE_MAX_IMAGE_WORDS 1034u
+
+/*
  * A call is eight words. The number, word 0, says which of the others count; those that do not count are not read.
  *
  *   number               TENANT   SUBJECT   AMOUNT   what it does, and what its reply has
@@ -111,24 +135,26 @@ extern "C" {
 
 /*
  * Refusal numbers, each with the word that the paper has for it. 0 is no refusal: the call was carried out. Of several that apply
- * the lowest is given, but for 11, which is tested right after 2.
+ * the lowest is given, but for 11, which is tested right after 2. Only archive_decode gives 12, and only archive_encode 13.
  */
 #define ARCHIVE_ACCEPTED 0u
-#define ARCHIVE_UNSOUND_TABLE 1u     /* foreign table: its words are no table that calls can have made */
-#define ARCHIVE_OUT_OF_RANGE 2u      /* out of range: a capacity, salt, weight, tenant, id or value, or a list of over 256 ids */
-#define ARCHIVE_NO_SUCH_SERVER 3u    /* no such shelf: no server has that number, or there is none at all */
-#define ARCHIVE_TOO_MANY_SERVERS 4u  /* rack full: there are 256 servers already */
-#define ARCHIVE_SHORT_MEDIUM 5u      /* short medium: the medium has too few words for the servers */
-#define ARCHIVE_SERVER_FULL 6u       /* shelf full: the server that the write goes to has no entry left */
-#define ARCHIVE_NOT_BLANK 7u         /* not blank: a word that would be written, or a new server's, is not blank */
-#define ARCHIVE_NOT_FOUND 8u         /* absent: the id was never written, or was deleted since */
-#define ARCHIVE_EXCEEDS_FREE 9u      /* over free: the weight is more than the server has free entries */
-#define ARCHIVE_CORRUPT 10u          /* damaged: the value word found is no value */
-#define ARCHIVE_OTHER_TENANT 11u     /* another club's ticket: the id belongs to another tenant than the caller */
+#define ARCHIVE_UNSOUND_TABLE 1u      /* foreign table: its words are no table that calls can have made */
+#define ARCHIVE_OUT_OF_RANGE 2u       /* out of range: a capacity, salt, weight, tenant, id or value, or a list of over 256 ids */
+#define ARCHIVE_NO_SUCH_SERVER 3u     /* no such shelf: no server has that number, or there is none at all */
+#define ARCHIVE_TOO_MANY_SERVERS 4u   /* rack full: there are 256 servers already */
+#define ARCHIVE_SHORT_MEDIUM 5u       /* short medium: the medium has too few words for the servers */
+#define ARCHIVE_SERVER_FULL 6u        /* shelf full: the server that the write goes to has no entry left */
+#define ARCHIVE_NOT_BLANK 7u          /* not blank: a word that would be written, or a new server's, is not blank */
+#define ARCHIVE_NOT_FOUND 8u          /* absent: the id was never written, or was deleted since */
+#define ARCHIVE_EXCEEDS_FREE 9u       /* over free: the weight is more than the server has free entries */
+#define ARCHIVE_CORRUPT 10u           /* damaged: the value word found is no value */
+#define ARCHIVE_OTHER_TENANT 11u      /* another club's ticket: the id belongs to another tenant than the caller */
+#define ARCHIVE_BAD_IMAGE 12u         /* bad sheet: the words are no sound table's image */
+#define ARCHIVE_SHORT_DESTINATION 13u /* destination short: the run has too few words for the image */
 
 /* Numbers that no call gives. */
-#define ARCHIVE_SHORT 4294967294u    /* a run that was lent is too short; nothing was done */
-#define ARCHIVE_NO_CALL 4294967295u  /* word 0 of a call is no call's number; nothing was done */
+#define ARCHIVE_SHORT 4294967294u     /* a run that was lent is too short; nothing was done */
+#define ARCHIVE_NO_CALL 4294967295u   /* word 0 of a call is no call's number; nothing was done */
 
 /* The version of the library's interface, to be compared with ARCHIVE_ABI. */
 uint32_t archive_abi(void);
@@ -203,6 +229,27 @@ size_t archive_picks(const uint32_t *weights, size_t weights_words,
                      uint32_t salt,
                      const uint32_t *ids, size_t ids_words,
                      uint32_t *servers, size_t servers_words);
+
+/*
+ * Writes the image of a table to the front of `image`, and how many words it has to the first word of `length`: they are
+ * ARCHIVE_IMAGE_WORDS of the number of servers, and ARCHIVE_MAX_IMAGE_WORDS words have room for every image. The words of both
+ * runs after these keep their content. What the table has for servers that were never added is not read.
+ * Answers ARCHIVE_ACCEPTED; ARCHIVE_UNSOUND_TABLE; ARCHIVE_SHORT_DESTINATION if the table is sound and `image` has too few words;
+ * or ARCHIVE_SHORT, if `table` or `length` has. Unless it is accepted, no word of any run is changed.
+ */
+uint32_t archive_encode(const uint32_t *table, size_t table_words,
+                        uint32_t *image, size_t image_words,
+                        uint32_t *length, size_t length_words);
+
+/*
+ * Reads a table from an image. The run `image` is all of it, no word more or less, so its length says how many servers there are.
+ * The table answers every call as the one that the image was made of, and has zeros for servers that were never added; the words
+ * after it keep their content. The image read is made of it again by archive_encode.
+ * Answers ARCHIVE_ACCEPTED; ARCHIVE_BAD_IMAGE if the words are no sound table's image, and the table is then all zeros, on which
+ * every call is refused; or ARCHIVE_SHORT, if `table` has too few words: then no word is changed.
+ */
+uint32_t archive_decode(const uint32_t *image, size_t image_words,
+                        uint32_t *table, size_t table_words);
 
 #ifdef __cplusplus
 }

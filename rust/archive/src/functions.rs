@@ -59,6 +59,20 @@ extern "C" {
         servers: *mut u32,
         servers_words: usize,
     ) -> usize;
+    fn archive_encode(
+        table: *const u32,
+        table_words: usize,
+        image: *mut u32,
+        image_words: usize,
+        length: *mut u32,
+        length_words: usize,
+    ) -> u32;
+    fn archive_decode(
+        image: *const u32,
+        image_words: usize,
+        table: *mut u32,
+        table_words: usize,
+    ) -> u32;
 }
 
 // SAFETY of every block below: the pointers and lengths are those of slices, the writable ones
@@ -176,4 +190,24 @@ pub fn picks(weights: &[u32], salt: u32, ids: &[u32], servers: &mut [u32]) -> us
             servers.len(),
         )
     }
+}
+
+/// Writes the image of a table to the front of a run, and its number of words to `length`; answers a
+/// refusal number, or 0.
+pub fn encode(table: &[u32], image: &mut [u32], length: &mut [u32]) -> u32 {
+    unsafe {
+        archive_encode(
+            table.as_ptr(),
+            table.len(),
+            image.as_mut_ptr(),
+            image.len(),
+            length.as_mut_ptr(),
+            length.len(),
+        )
+    }
+}
+
+/// Reads a table from the words of an image; answers a refusal number, or 0.
+pub fn decode(image: &[u32], table: &mut [u32]) -> u32 {
+    unsafe { archive_decode(image.as_ptr(), image.len(), table.as_mut_ptr(), table.len()) }
 }

@@ -21,6 +21,9 @@
 //!
 //! An archive counts the servers that were opened for each tenant's lookups ([`Archive::counter`]), so that a lookup changes the
 //! table, also where it is refused after it opened servers.
+//!
+//! A table can be kept from one run of a program to the next, or carried with its medium, as an image: [`Archive::image`] writes
+//! it, and [`Archive::from_image`] goes on from it. Its words have tags, so that most damage to an image is told.
 
 pub mod functions;
 mod words;
@@ -43,9 +46,11 @@ pub enum Refusal {
     ExceedsFree = 9,
     Corrupt = 10,
     OtherTenant = 11,
+    BadImage = 12,
+    ShortDestination = 13,
 }
 
-const REFUSALS: [Refusal; 11] = [
+const REFUSALS: [Refusal; 13] = [
     Refusal::UnsoundTable,
     Refusal::OutOfRange,
     Refusal::NoSuchServer,
@@ -57,6 +62,8 @@ const REFUSALS: [Refusal; 11] = [
     Refusal::ExceedsFree,
     Refusal::Corrupt,
     Refusal::OtherTenant,
+    Refusal::BadImage,
+    Refusal::ShortDestination,
 ];
 
 impl Refusal {
@@ -82,6 +89,8 @@ impl fmt::Display for Refusal {
             Refusal::ExceedsFree => "the weight exceeds the server's free entries",
             Refusal::Corrupt => "the value word is damaged",
             Refusal::OtherTenant => "the id belongs to another tenant",
+            Refusal::BadImage => "the words are no table's image",
+            Refusal::ShortDestination => "the destination is too short for the image",
         };
         out.write_str(text)
     }
@@ -164,6 +173,21 @@ impl<'m> Archive<'m> {
     /// An archive from the words of a table, which may be any: calls refuse those of none.
     pub fn from_words(table: [u32; TABLE_WORDS], medium: &'m mut [u32]) -> Self {
         Archive { table, medium }
+    }
+
+    /// An archive from the image of a table, which is all of these words.
+    pub fn from_image(image: &[u32], medium: &'m mut [u32]) -> Result<Self, Refusal> {
+        let mut table = [0; TABLE_WORDS];
+        told(functions::decode(image, &mut table))?;
+        Ok(Archive { table, medium })
+    }
+
+    /// Writes the image of its table to the front of a run; answers how many words it has, [`image_words`] of the servers and
+    /// [`MAX_IMAGE_WORDS`] at most. The words after it keep their content, and so do all where it is refused.
+    pub fn image(&self, destination: &mut [u32]) -> Result<usize, Refusal> {
+        let mut length = [0];
+        told(functions::encode(&self.table, destination, &mut length))?;
+        Ok(length[0] as usize)
     }
 
     /// The words of its table, to be kept.

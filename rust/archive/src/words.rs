@@ -1,7 +1,7 @@
 //! Calls and replies as words, as include/archive.h has them.
 
 /// The version of the interface that this crate is written for; `functions::abi` answers the library's own.
-pub const ABI: u32 = 4;
+pub const ABI: u32 = 5;
 
 /// How many words a table has.
 pub const TABLE_WORDS: usize = 1035;
@@ -45,6 +45,14 @@ pub const TABLE_COUNTERS: usize = 1027;
 
 /// Where a tenant's counter stops.
 pub const MAX_COUNTER: u32 = CONTENT_RANGE - 1;
+
+/// How many words the image of a table has, by its number of servers.
+pub const fn image_words(count: usize) -> usize {
+    10 + 4 * count
+}
+
+/// The most words of an image: those of 256 servers.
+pub const MAX_IMAGE_WORDS: usize = image_words(MAX_SERVERS);
 
 /// The refusal number of a call that was carried out.
 pub const ACCEPTED: u32 = 0;

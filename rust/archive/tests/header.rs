@@ -28,7 +28,7 @@ fn defined() -> Vec<(&'static str, u64)> {
 }
 
 /// The same by this crate, in the order of the header.
-const OURS: [(&str, u64); 40] = [
+const OURS: [(&str, u64); 43] = [
     ("ABI", ABI as u64),
     ("TABLE_WORDS", TABLE_WORDS as u64),
     ("CALL_WORDS", CALL_WORDS as u64),
@@ -41,6 +41,7 @@ const OURS: [(&str, u64); 40] = [
     ("TENANTS", TENANTS as u64),
     ("TABLE_COUNTERS", TABLE_COUNTERS as u64),
     ("MAX_COUNTER", MAX_COUNTER as u64),
+    ("MAX_IMAGE_WORDS", MAX_IMAGE_WORDS as u64),
     ("ADD_SERVER", call::ADD_SERVER as u64),
     ("REWEIGHT", call::REWEIGHT as u64),
     ("WRITE", call::WRITE as u64),
@@ -67,6 +68,8 @@ const OURS: [(&str, u64); 40] = [
     ("EXCEEDS_FREE", Refusal::ExceedsFree as u64),
     ("CORRUPT", Refusal::Corrupt as u64),
     ("OTHER_TENANT", Refusal::OtherTenant as u64),
+    ("BAD_IMAGE", Refusal::BadImage as u64),
+    ("SHORT_DESTINATION", Refusal::ShortDestination as u64),
     ("SHORT", SHORT as u64),
     ("NO_CALL", NO_CALL as u64),
 ];
@@ -81,6 +84,15 @@ fn a_server_has_as_many_words() {
     let line = "#define ARCHIVE_SERVER_WORDS(capacity) ((size_t)3 * (size_t)(capacity))";
     assert!(HEADER.lines().any(|other| other == line));
     assert_eq!(server_words(100), 300);
+}
+
+#[test]
+fn an_image_has_as_many_words() {
+    let line = "#define ARCHIVE_IMAGE_WORDS(count) ((size_t)10 + (size_t)4 * (size_t)(count))";
+    assert!(HEADER.lines().any(|other| other == line));
+    assert_eq!([0, 1, 3].map(image_words), [10, 14, 22]);
+    assert_eq!(image_words(MAX_SERVERS), MAX_IMAGE_WORDS);
+    assert_eq!(MAX_IMAGE_WORDS, 1_034);
 }
 
 #[test]
@@ -112,10 +124,10 @@ fn the_library_has_the_numbers_of_the_crate() {
 
 #[test]
 fn every_refusal_has_its_number() {
-    let numbers: Vec<u32> = (0..=12)
+    let numbers: Vec<u32> = (0..=14)
         .chain([SHORT, NO_CALL])
         .filter_map(Refusal::from_number)
         .map(|refusal| refusal as u32)
         .collect();
-    assert_eq!(numbers, (1..=11).collect::<Vec<u32>>());
+    assert_eq!(numbers, (1..=13).collect::<Vec<u32>>());
 }
