@@ -1,6 +1,6 @@
 /*
- * Starts an archive of three servers with a salt of its own, writes tickets of two tenants, looks them up, and prints what it did
- * and how many servers it opened for each tenant.
+ * Starts an archive of three servers with a salt of its own, writes tickets of two tenants, looks them up, keeps the table as an
+ * image and goes on from it, and prints what it did and how many servers it opened for each tenant.
  */
 #include <stdio.h>
 #include <stdlib.h>
@@ -12,6 +12,7 @@
 #define WORDS (ARCHIVE_SERVER_WORDS(CAPACITY) * SERVERS)
 
 static uint32_t table[ARCHIVE_TABLE_WORDS], medium[WORDS], reply[ARCHIVE_REPLY_WORDS];
+static uint32_t image[ARCHIVE_IMAGE_WORDS(SERVERS)];
 
 /* One call; a refusal other than `absent` and `another club's ticket` ends the program. */
 static uint32_t call(uint32_t number, uint32_t tenant, uint32_t subject, uint32_t amount)
@@ -53,6 +54,29 @@ static void print_counter(uint32_t tenant)
     printf("tenant %u: %u opened in all\n", (unsigned)tenant, (unsigned)table[ARCHIVE_TABLE_COUNTERS + tenant]);
 }
 
+/* Keeps the table as an image, as between two runs; answers how many words it has. A refusal ends the program. */
+static uint32_t keep(void)
+{
+    uint32_t length;
+    uint32_t refusal = archive_encode(table, ARCHIVE_TABLE_WORDS, image, ARCHIVE_IMAGE_WORDS(SERVERS), &length, 1);
+    if (refusal != ARCHIVE_ACCEPTED) {
+        fprintf(stderr, "the table was refused: %u\n", (unsigned)refusal);
+        exit(1);
+    }
+    printf("the table in %u words\n", (unsigned)length);
+    return length;
+}
+
+/* The table from so many words of the image; a refusal leaves zeros, on which no call would go on. */
+static void read_back(uint32_t length)
+{
+    uint32_t refusal = archive_decode(image, length, table, ARCHIVE_TABLE_WORDS);
+    if (refusal == ARCHIVE_ACCEPTED)
+        printf("the table from %u words\n", (unsigned)length);
+    else
+        printf("%u words are refused: %u\n", (unsigned)length, (unsigned)refusal);
+}
+
 int main(void)
 {
     if (archive_abi() != ARCHIVE_ABI || archive_start(CAPACITY, SALT, table, ARCHIVE_TABLE_WORDS) != ARCHIVE_ACCEPTED)
@@ -68,6 +92,9 @@ int main(void)
     look_up(0, 1001);
     look_up(4, 1001);
     look_up(4, 626627286);
+    uint32_t length = keep();
+    read_back(length - 1);
+    read_back(length);
     call(ARCHIVE_DELETE, 0, 1002, 0);
     look_up(0, 1002);
     print_counter(0);
