@@ -29,6 +29,8 @@ pub enum Refusal {
     OverFree = 9,
     Damaged = 10,
     OtherTenant = 11,
+    BadImage = 12,
+    ShortDestination = 13,
 }
 
 #[derive(Clone, Copy)]

@@ -8,6 +8,7 @@ use crate::calls::{self, Call, CAPACITY, COUNT, COUNTERS, INVALIDATED, PARTS, RE
 use crate::calls::{REPLY_WORDS, SALT, TABLE_WORDS};
 use crate::cases::Cases;
 use crate::counters::{self, Told};
+use crate::image_cases::ImageCases;
 use crate::ledger::Ledger;
 use crate::placement::{self, MAX_SERVERS, SALT_RANGE};
 use crate::random::Random;
@@ -50,6 +51,8 @@ pub struct Tally {
     pub cases: Cases,
     pub batch_cases: Cases,
     pub counting: u64,
+    /// What was met about images.
+    pub images: ImageCases,
 }
 
 impl Tally {
@@ -192,7 +195,7 @@ fn compare_outcomes(proved: &Outcome, rust: &Outcome) -> Result<(), Difference> 
 }
 
 /// The words of a table that count: positions at or above its count are left out.
-fn below_count(table: &[u32]) -> Vec<u32> {
+pub fn below_count(table: &[u32]) -> Vec<u32> {
     if table.len() < TABLE_WORDS {
         return table.to_vec();
     }

@@ -13,6 +13,12 @@ mod counting;
 mod differ;
 mod exhaustive;
 mod fractions;
+mod image;
+mod image_cases;
+mod image_differ;
+mod image_suites;
+mod image_tables;
+mod image_words;
 mod interface;
 mod ledger;
 mod lists;
@@ -109,7 +115,8 @@ fn test(options: &Options) -> ExitCode {
         .and_then(|()| run_interface(seed, calls, &mut tally))
         .and_then(|()| run_batches(seed, batches, &mut tally))
         .and_then(|()| run_neighbours(seed, calls, &mut tally))
-        .and_then(|()| run_counting(seed, calls, &mut tally));
+        .and_then(|()| run_counting(seed, calls, &mut tally))
+        .and_then(|()| run_images(seed, calls, &mut tally));
     match result {
         Ok(()) => {
             report(&tally);
@@ -123,12 +130,13 @@ fn test(options: &Options) -> ExitCode {
     }
 }
 
-/// Fails where a salt at an edge or a case of the counters was not met often enough for a difference
-/// to show.
+/// Fails where a salt at an edge, a case of the counters or one of the images was not met often enough
+/// for a difference to show.
 fn met_enough(tally: &Tally, calls: u64) -> ExitCode {
     let salts = tally.by_salt.missed(calls);
     let lists = tally.cases.missed(Kind::Lists, calls);
     let ids = tally.batch_cases.missed(Kind::Batches, calls);
+    let images = tally.images.missed(calls);
     if !salts.is_empty() {
         println!("TOO FEW CALLS under the salts {salts:?}");
     }
@@ -138,7 +146,10 @@ fn met_enough(tally: &Tally, calls: u64) -> ExitCode {
     if !ids.is_empty() {
         println!("TOO FEW IDS OF BATCHES with {ids:?}");
     }
-    match salts.is_empty() && lists.is_empty() && ids.is_empty() {
+    if !images.is_empty() {
+        println!("TOO FEW IMAGES with {images:?}");
+    }
+    match salts.is_empty() && lists.is_empty() && ids.is_empty() && images.is_empty() {
         true => ExitCode::SUCCESS,
         false => ExitCode::FAILURE,
     }
@@ -204,6 +215,15 @@ fn run_counting(seed: u64, calls: u64, tally: &mut Tally) -> Result<(), Differen
     Ok(())
 }
 
+fn run_images(seed: u64, calls: u64, tally: &mut Tally) -> Result<(), Difference> {
+    for (name, suite, share) in image_suites::SUITES {
+        let asked = calls * share / 10_000;
+        let ran = run_suite(name, suite, seed, asked, tally, |t| t.images.run)?;
+        println!("{name}: {ran}");
+    }
+    Ok(())
+}
+
 fn run_suites(seed: u64, calls: u64, tally: &mut Tally) -> Result<(), Difference> {
     for (name, suite, share) in suites::SUITES {
         let ran = run_suite(name, suite, seed, calls * share / 100, tally, |t| t.calls)?;
@@ -257,4 +277,5 @@ fn report(tally: &Tally) {
         "calls compared in pairs: {}, ids of batches compared: {}",
         tally.neighbours_calls, tally.neighbours_ids
     );
+    println!("images: {}", tally.images);
 }

@@ -1,8 +1,9 @@
-//! The known draws, the edges and the example of document 01 and the tenants, salts and counters of
-//! document 02, on the Rust implementation and the ledger alone.
+//! The known draws, the edges and the example of document 01 and the tenants, salts, counters and
+//! images of document 02, on the Rust implementation and the ledger alone.
 
 use crate::archive::{tenant_of, Refusal, Table, BLANK};
 use crate::calls::{Call, Reply};
+use crate::image::{decode, encode};
 use crate::ledger::Ledger;
 use crate::placement::{draw, picks, round, step, write_server};
 
@@ -211,6 +212,69 @@ fn counters() {
             assert_eq!(unsound, before);
         }
     }
+}
+
+/// The image of the table that the example leaves: weights 2, 0, 2, an entry used on servers 0 and 2,
+/// whose ReadP is still that of its first weights, and five servers opened for tenant 4.
+#[rustfmt::skip]
+const EXAMPLE_IMAGE: [u32; 22] = [
+    4, 1_073_741_824,
+    1_073_741_826, 2_147_483_649, 1, 1_073_741_825,
+    1_073_741_824, 2_147_483_648, 0, 1_073_741_825,
+    1_073_741_826, 2_147_483_649, 2, 1_073_741_827,
+    2_147_483_648, 2_147_483_648, 2_147_483_648, 2_147_483_648,
+    2_147_483_653, 2_147_483_648, 2_147_483_648, 2_147_483_648,
+];
+
+#[test]
+fn image_of_the_example() {
+    let mut table = Table::start(4, 0).expect("in range");
+    let mut medium = vec![BLANK; 36];
+    for (call, reply) in example(0) {
+        assert_eq!(table.run(&mut medium, call), reply);
+    }
+    let words = table.words();
+    assert_eq!(encode(&words), Ok(EXAMPLE_IMAGE.to_vec()));
+    assert_eq!(decode(&EXAMPLE_IMAGE), Ok(words));
+    let mut other = table.clone();
+    other.weights[3] = u32::MAX;
+    assert_eq!(encode(&other.words()), Ok(EXAMPLE_IMAGE.to_vec()));
+    other.count = 4;
+    assert_eq!(encode(&other.words()), Err(Refusal::Unsound));
+}
+
+#[test]
+fn no_images() {
+    for at in 0..EXAMPLE_IMAGE.len() {
+        for tag in 1..4 {
+            let mut words = EXAMPLE_IMAGE;
+            words[at] ^= tag << 30;
+            assert_eq!(decode(&words), Err(Refusal::BadImage));
+        }
+        assert_eq!(decode(&EXAMPLE_IMAGE[..at]), Err(Refusal::BadImage));
+    }
+    // Server 0 without its words, a weight above the capacity, and a ReadP below WriteP.
+    let without = [&EXAMPLE_IMAGE[..2], &EXAMPLE_IMAGE[6..]].concat();
+    assert_eq!(decode(&without), Err(Refusal::BadImage));
+    for (at, content) in [(2, 5), (4, 0), (12, 1)] {
+        let mut words = EXAMPLE_IMAGE;
+        words[at] = words[at] >> 30 << 30 | content;
+        assert_eq!(decode(&words), Err(Refusal::BadImage));
+    }
+}
+
+/// The last ten words, ReadP of server 2 and the counters, are an image too: a capacity and a salt,
+/// and no server. No others at the end are.
+#[test]
+fn image_at_the_end() {
+    for at in (1..EXAMPLE_IMAGE.len()).filter(|at| *at != 12) {
+        assert_eq!(decode(&EXAMPLE_IMAGE[at..]), Err(Refusal::BadImage));
+    }
+    let other = Table {
+        counters: [0, 0, 0, 0, 5, 0, 0, 0],
+        ..Table::start(2, 3).expect("in range")
+    };
+    assert_eq!(decode(&EXAMPLE_IMAGE[12..]), Ok(other.words()));
 }
 
 #[test]
