@@ -1,8 +1,11 @@
 //! One input that is measured, and its two sides.
 
+use std::hint::black_box;
+
 use crate::archive::{tenant_of, Table, BLANK};
 use crate::batch::MAX_IDS;
-use crate::calls::{self, encode, Call, CALL_WORDS, REFUSAL, REPLY_WORDS};
+use crate::calls::{self, encode, Call, CALL_WORDS, REFUSAL, REPLY_WORDS, TABLE_WORDS};
+use crate::image;
 use crate::placement;
 use ticket_archive::functions as proved;
 
@@ -28,6 +31,10 @@ enum Work {
     Calls { table: Vec<u32>, calls: Vec<u32> },
     /// Lookups by the proved code alone: in batches of 256 ids, and each lent alone.
     Batches { table: Vec<u32>, calls: Vec<u32> },
+    /// The image of a table written again and again: proved, and in Rust.
+    Encode { table: Vec<u32> },
+    /// A table read from an image again and again: proved, and in Rust.
+    Decode { words: Vec<u32> },
 }
 
 impl Work {
@@ -36,7 +43,8 @@ impl Work {
         match self {
             Work::Resume { table, .. }
             | Work::Calls { table, .. }
-            | Work::Batches { table, .. } => Some(table),
+            | Work::Batches { table, .. }
+            | Work::Encode { table } => Some(table),
             _ => None,
         }
     }
@@ -45,12 +53,13 @@ impl Work {
 /// An input, and the buffers that a run changes.
 pub struct Scene {
     work: Work,
-    image: Vec<u32>,
+    /// What the medium holds before a run.
+    before: Vec<u32>,
     table: Vec<u32>,
     medium: Vec<u32>,
     ids: Vec<u32>,
     answers: Vec<u32>,
-    /// How many picks or calls one run makes.
+    /// How many picks, calls or images one run makes.
     pub calls: usize,
 }
 
@@ -102,12 +111,27 @@ impl Scene {
         }
     }
 
-    fn new(work: Work, image: Vec<u32>, answers: usize, calls: usize) -> Self {
+    /// The image of a table, written so many times.
+    pub fn encode(table: &Table, times: usize) -> Self {
+        let work = Work::Encode {
+            table: table.words().to_vec(),
+        };
+        let words = image::image_words(table.count as usize);
+        Scene::new(work, Vec::new(), words, times)
+    }
+
+    /// A table, read so many times from its image.
+    pub fn decode(table: &Table, times: usize) -> Self {
+        let words = image::encode(&table.words()).expect("sound");
+        Scene::new(Work::Decode { words }, Vec::new(), TABLE_WORDS, times)
+    }
+
+    fn new(work: Work, before: Vec<u32>, answers: usize, calls: usize) -> Self {
         Scene {
             table: work.table().unwrap_or(&[]).to_vec(),
             work,
-            medium: image.clone(),
-            image,
+            medium: before.clone(),
+            before,
             ids: Vec::new(),
             answers: vec![0; answers],
             calls,
@@ -116,7 +140,7 @@ impl Scene {
 
     /// Puts every buffer back to what it held before the first run.
     pub fn clear(&mut self) {
-        self.medium.copy_from_slice(&self.image);
+        self.medium.copy_from_slice(&self.before);
         self.answers.fill(0);
         if let Some(table) = self.work.table() {
             self.table.copy_from_slice(table);
@@ -153,6 +177,18 @@ impl Scene {
                 call_each(table, calls, medium, answers)
             }
             (Work::Batches { .. }, Side::First) => look_up_all(table, medium, &self.ids, answers),
+            (Work::Encode { .. }, Side::First) => {
+                encode_all(proved::encode, table, answers, self.calls)
+            }
+            (Work::Encode { .. }, Side::Second) => {
+                encode_all(image::encode_run, table, answers, self.calls)
+            }
+            (Work::Decode { words }, Side::First) => {
+                decode_all(proved::decode, words, answers, self.calls)
+            }
+            (Work::Decode { words }, Side::Second) => {
+                decode_all(image::decode_run, words, answers, self.calls)
+            }
         }
     }
 
@@ -165,9 +201,12 @@ impl Scene {
         ]
     }
 
-    /// How many calls were refused in the last run.
+    /// How many calls were refused in the last run; images are not.
     pub fn refused(&self) -> usize {
-        if matches!(self.work, Work::Picks { .. }) {
+        if matches!(
+            self.work,
+            Work::Picks { .. } | Work::Encode { .. } | Work::Decode { .. }
+        ) {
             return 0;
         }
         let replies = self.answers.chunks_exact(REPLY_WORDS);
@@ -194,4 +233,27 @@ fn look_up_all(table: &mut [u32], medium: &[u32], ids: &[u32], replies: &mut [u3
         proved::lookup_batch(table, medium, tenant, ids, replies, &mut order, &mut mounts);
     }
     ids.len()
+}
+
+/// The image of a table so many times; answers how many were accepted.
+fn encode_all(
+    encode: impl Fn(&[u32], &mut [u32], &mut [u32]) -> u32,
+    table: &[u32],
+    image: &mut [u32],
+    times: usize,
+) -> usize {
+    let mut length = [0];
+    let is_written = |_: &usize| encode(black_box(table), black_box(image), &mut length) == 0;
+    (0..times).filter(is_written).count()
+}
+
+/// A table from an image so many times; answers how many were accepted.
+fn decode_all(
+    decode: impl Fn(&[u32], &mut [u32]) -> u32,
+    words: &[u32],
+    table: &mut [u32],
+    times: usize,
+) -> usize {
+    let is_read = |_: &usize| decode(black_box(words), black_box(table)) == 0;
+    (0..times).filter(is_read).count()
 }

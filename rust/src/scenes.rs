@@ -31,7 +31,7 @@ pub const GROUPS: [Group; 3] = [
 /// Name, what it measures, and how it is made.
 pub type Entry = (&'static str, &'static str, fn() -> Scene);
 
-const AGAINST_RUST: [Entry; 13] = [
+const AGAINST_RUST: [Entry; 17] = [
     ("pick-256", "write decision over 256 servers", pick_256),
     ("hit-1", "lookup that finds, 1 server", || lookups(1, true)),
     ("hit-16", "lookup that finds, 16 servers", || {
@@ -63,6 +63,18 @@ const AGAINST_RUST: [Entry; 13] = [
         mixed(256, 128)
     }),
     ("mixed-4", "100,000 calls, 4 servers of 64", || mixed(4, 64)),
+    ("encode-1", "image written, 1 server", || {
+        Scene::encode(&to_be_kept(1), IMAGES)
+    }),
+    ("encode-256", "image written, 256 servers", || {
+        Scene::encode(&to_be_kept(256), IMAGES)
+    }),
+    ("decode-1", "image read, 1 server", || {
+        Scene::decode(&to_be_kept(1), IMAGES)
+    }),
+    ("decode-256", "image read, 256 servers", || {
+        Scene::decode(&to_be_kept(256), IMAGES)
+    }),
 ];
 
 /// Calls lent one at a time, against the same in one list.
@@ -315,4 +327,20 @@ fn mixed(servers: u32, capacity: u32) -> Scene {
         });
     }
     Scene::replay([capacity, SALT], (3 * entries) as usize, &list)
+}
+
+/// How many images are written or read in a run.
+const IMAGES: usize = 1_000;
+
+/// Servers of any weight with some entries used, and tenants that opened some.
+fn to_be_kept(servers: usize) -> Table {
+    let mut random = Random::new(servers as u64);
+    let (mut table, _) = filled(&mut random, servers, ENTRIES, 0);
+    for server in 0..servers {
+        let weight = random.below(ENTRIES + 1);
+        table.reweight(server as u32, weight).expect("free");
+        table.used[server] = random.below(ENTRIES + 1);
+    }
+    table.counters = table.counters.map(|_| random.below(CONTENT_RANGE));
+    table
 }
