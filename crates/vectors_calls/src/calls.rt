@@ -1,4 +1,5 @@
 // The calls on a table: each prints its reply and hands the table back.
+use crate::images;
 use crate::print;
 use limits::TENANTS;
 use table::Table;
@@ -77,14 +78,10 @@ fn lookup(table: Table, medium: &[u32], tenant: u32, id: u32, text: &[u8]) -> Ta
     looked.table
 }
 
-fn wide(x: u32) -> u64 {
-    x as u64
-}
-
 fn show_word(medium: &[u32], i: u32, text: &[u8]) {
     let at = i as usize;
     if at < medium.len() {
-        print::print_number(text, wide(medium[at]));
+        print::print_number(text, print::wide(medium[at]));
     }
 }
 
@@ -100,7 +97,7 @@ fn burn(table: Table, medium: &mut [u32], i: u32, word: u32) -> Table {
 fn show_counter(table: Table, tenant: u32, text: &[u8]) -> Table {
     let at = tenant as usize;
     if at < TENANTS {
-        print::print_number(text, wide(table.counters[at]));
+        print::print_number(text, print::wide(table.counters[at]));
     }
     table
 }
@@ -115,8 +112,8 @@ fn set_counter(table: Table, tenant: u32, counter: u32) -> Table {
     next
 }
 
-// A adds servers and prints no reply, V shows a word, C a tenant's counter, and T sets one from outside; the others are the day
-// sheet's letters. The caller's tenant is the first number of L.
+// A adds servers and prints no reply, V shows a word and O all of them, C shows a tenant's counter and T sets one from outside, R
+// reads a table from the words; the others are the day sheet's letters. The caller's tenant is the first number of L.
 fn run_reading(table: Table, medium: &[u32], letter: u8, a: u32, b: u32, text: &[u8]) -> Table {
     match letter {
         b'S' => return start_anew(a, b, text),
@@ -127,13 +124,15 @@ fn run_reading(table: Table, medium: &[u32], letter: u8, a: u32, b: u32, text: &
         b'L' => return lookup(table, medium, a, b, text),
         b'C' => return show_counter(table, a, text),
         b'T' => return set_counter(table, a, b),
+        b'R' => return images::decode(medium, text),
+        b'O' => print::print_words(text, medium),
         _ => {}
     }
     table
 }
 
-// X is a write after which the older table is kept, P burns a word from outside; the others are the day sheet's letters. The
-// caller's tenant is the first number of W, X and D.
+// X is a write after which the older table is kept, P burns a word from outside, E encodes the table over the words; the others are
+// the day sheet's letters. The caller's tenant is the first number of W, X and D.
 pub fn run_call(
     table: Table,
     medium: &mut [u32],
@@ -148,6 +147,7 @@ pub fn run_call(
         b'X' => write_and_forget(table, medium, a, b, c, text),
         b'D' => delete(table, medium, a, b, text),
         b'P' => burn(table, medium, a, b),
+        b'E' => images::encode(table, medium, text),
         _ => run_reading(table, medium, letter, a, b, text),
     }
 }

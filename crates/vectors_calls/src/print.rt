@@ -11,6 +11,10 @@ fn more(n: u64) {
     io::print_decimal(1, n);
 }
 
+pub fn wide(x: u32) -> u64 {
+    x as u64
+}
+
 fn end() {
     io::write_all(1, b"\n");
 }
@@ -20,6 +24,26 @@ pub fn print_number(text: &[u8], n: u64) {
         return;
     }
     first(text, n);
+    end();
+}
+
+pub fn print_two(text: &[u8], a: u32, b: usize) {
+    if text.len() == 0 {
+        return;
+    }
+    first(text, a as u64);
+    more(b as u64);
+    end();
+}
+
+// Prints a line of words, a blank before each.
+pub fn print_words(text: &[u8], words: &[u32]) {
+    io::write_all(1, text);
+    let mut i: usize = 0;
+    while i < words.len() {
+        more(wide(words[i]));
+        i += 1;
+    }
     end();
 }
 
