@@ -13,7 +13,7 @@ use borrow.Author.Tests.{eqb-true, eq-eqb, leb-true, le-leb, ltb-true, ltb-false
 use Rattle.limits.specs.Limits.{maxServers, contentRange, tenants}
 use Rattle.lists.specs.Below.{nth, allBelow}
 use Rattle.lists.proofs.Tests.{byBool, true-not-false, and-l, and-r, and-i}
-use Rattle.lists.proofs.Below.{allBelow-in, allBelow-out, allBelow-cong, setBelow-at, setBelow-above, nth-zeros}
+use Rattle.lists.proofs.Below.{allBelow-in, allBelow-out, allBelow-cong, setBelow-at, setBelow-above, length-setBelow, nth-zeros}
 use Rattle.words.specs.Word.{tagOf, contentOf, tagged}
 use Rattle.words.proofs.Words.{tag-back, content-back, word-back}
 use Rattle.counters.specs.Counter.{inBounds}
@@ -21,7 +21,7 @@ use Rattle.counters.proofs.Counters.{bounds-at, bounds-cong}
 use Rattle.table.specs.declared.Table.{Table}
 use Rattle.table.specs.Parts.{weightOf, usedOf, readP, openedOf, zeros, empty}
 use Rattle.table.specs.Sound.{sound}
-use Rattle.table.proofs.Soundness.{sound-facts}
+use Rattle.table.proofs.Soundness.{Arrays, sound-facts}
 use Rattle.table.proofs.Agreement.{agree-sound}
 use Rattle.replies.specs.Refusal.{firstOf, settle}
 use Rattle.replies.specs.Reply.{refused, accepted, replyBy}
@@ -48,6 +48,22 @@ zeros-above words =
       weight = λ k l. column-above words 0 n k l;
       used = λ k l. column-above words 1 n k l;
       read = λ k l. ap₂ (λ (a b : ℕ). record { num = a; den = b }) (column-above words 2 n k l) (column-above words 3 n k l);
+    }
+
+-- the table read has whole arrays
+length-columnIn : (words : List ℕ) (place n : ℕ) → length (columnIn words place n) ≡ maxServers
+length-columnIn words place n = length-setBelow (λ k. contentAt words (partAt k + place)) n zeros ∙ length-replicate {A = ℕ} 256 0
+
+pub read-arrays : (words : List ℕ) → Arrays (tableIn words)
+unfolding tableIn
+read-arrays words =
+    let n = countIn (length words) in
+    record {
+      weights = length-columnIn words 0 n;
+      used = length-columnIn words 1 n;
+      numerators = length-columnIn words 2 n;
+      denominators = length-columnIn words 3 n;
+      counters = length-setBelow (λ i. contentAt words (partAt n + i)) tenants (replicate tenants 0) ∙ length-replicate {A = ℕ} 8 0;
     }
 
 -- a counter within its bound fits into a word

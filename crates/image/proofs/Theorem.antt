@@ -13,7 +13,7 @@ use Rattle.limits.specs.Limits.{maxServers}
 use Rattle.lists.proofs.Tests.{byBool}
 use Rattle.table.specs.declared.Table.{Table}
 use Rattle.table.specs.Sound.{sound}
-use Rattle.table.proofs.Soundness.{sound-facts}
+use Rattle.table.proofs.Soundness.{Arrays, empty-arrays, sound-facts}
 use Rattle.replies.specs.declared.Reply.{Reply}
 use Rattle.replies.specs.Reply.{accepted}
 use Rattle.replies.specs.Refusal.{rising}
@@ -23,7 +23,7 @@ use Rattle.image.specs.Encoding.{EncodeReply, encodeRows, replyOfEncode,
 use Rattle.image.specs.Decoding.{tableIn, isImage, decodeReply, decodeTable}
 use Rattle.image.specs.Promises.{ZerosAbove, Images, Accepts, Reads, WritesAgain, written, ReadsAgain}
 use Rattle.image.proofs.Images.{length-image, equal-image, image-equal}
-use Rattle.image.proofs.Reading.{read-back, image-taken, taken-sound, image-back, zeros-above, decode-refused, decode-done}
+use Rattle.image.proofs.Reading.{read-back, image-taken, taken-sound, image-back, zeros-above, read-arrays, decode-refused, decode-done}
 use Rattle.image.proofs.Writing.{rows-unsound, rows-short, encode-number, encode-settled}
 
 pub images : Images
@@ -102,3 +102,9 @@ pub decoded-few : (words : List ℕ) → decodeTable words .count ≤ maxServers
 decoded-few words = byBool (isImage words)
     (λ e. rw (← decode-done words e .1) (sound-facts (tableIn words) (taken-sound words e) .few))
     (λ e. rw (← decode-refused words e .1) (omega arith))
+
+-- the table that is handed out has whole arrays
+pub decoded-arrays : (words : List ℕ) → Arrays (decodeTable words)
+decoded-arrays words = byBool (isImage words)
+    (λ e. subst Arrays (decode-done words e .1) (read-arrays words))
+    (λ e. subst Arrays (decode-refused words e .1) (empty-arrays 0 0))
