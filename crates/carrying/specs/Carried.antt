@@ -1,0 +1,31 @@
+-- What the image of a table is for (document 02, item 6): an archive whose table was carried as its image, and read again, goes on as
+-- if it had not been.
+use Prim.Native.Nat.{ℕ}
+use mathlib.Core.Path.{_≡_}
+use mathlib.Core.List.{List}
+use Rattle.table.specs.declared.Table.{Table}
+use Rattle.batch.specs.Batch.{batchReply}
+use Rattle.history.specs.Call.{Call}
+use Rattle.history.specs.Machine.{State, after, replies}
+use Rattle.image.specs.Layout.{imageOf}
+use Rattle.image.specs.Decoding.{decodeTable}
+use Rattle.image.specs.Promises.{EqualBelow}
+
+-- a table over a medium, and the table read from its image over the same
+abbrev pub kept : Table → List ℕ → State
+kept t m = record { table = t; medium = m }
+
+abbrev pub carried : Table → List ℕ → State
+carried t m = kept (decodeTable (imageOf t)) m
+
+-- every list of calls gets the same replies on both, leaves the same medium, and leaves tables that are equal below the count and so
+-- have the same image; a batch after the list gets the same answer
+pub record Carried (t : Table) (m : List ℕ) (calls : List Call) : Type 0 where
+  pub same : replies (carried t m) calls ≡ replies (kept t m) calls
+  pub batches : (tenant : ℕ) (ids : List ℕ)
+      → let S = after (kept t m) calls in
+      let C = after (carried t m) calls in
+      batchReply (C .table) (C .medium) tenant ids ≡ batchReply (S .table) (S .medium) tenant ids
+  pub medium : after (carried t m) calls .medium ≡ after (kept t m) calls .medium
+  pub equal : EqualBelow (after (carried t m) calls .table) (after (kept t m) calls .table)
+  pub image : imageOf (after (carried t m) calls .table) ≡ imageOf (after (kept t m) calls .table)
