@@ -2,3 +2,4 @@ pub mod Images
 pub mod Reading
 pub mod Writing
 pub mod Theorem
+pub mod Worked

@@ -21,7 +21,7 @@ pub fn encode(table: &[u32], destination: &mut [u32], size: &mut [u32]) -> u32
     }
     let shape = table_words::shape_of(table);
     let columns = table_words::columns_of(table);
-    let answer = image::encode_in(shape, columns, destination);
+    let answer = image_writer::encode_in(shape, columns, destination);
     match answer {
         EncodeAnswer::Refused(refusal) => replies::check_number(Check::Refused(refusal)),
         EncodeAnswer::Encoded(n) => {
@@ -39,7 +39,7 @@ pub fn decode(image: &[u32], table: &mut [u32]) -> u32
     if table.len() < TABLE_LENGTH {
         return TOO_SHORT;
     }
-    let decoded = image::decode(image);
+    let decoded = image_reader::decode(image);
     let answer = decoded.answer;
     table_words::store_table(table, decoded.table);
     replies::check_number(answer)

@@ -6,7 +6,7 @@ use table::Table;
 
 // Encodes the table and prints refusal and number of words.
 pub fn encode(table: Table, words: &mut [u32], text: &[u8]) -> Table {
-    let answer = image::encode(table, words);
+    let answer = image_writer::encode(table, words);
     match answer {
         EncodeAnswer::Encoded(n) => print::print_two(text, 0, n),
         EncodeAnswer::Refused(refusal) => {
@@ -19,7 +19,7 @@ pub fn encode(table: Table, words: &mut [u32], text: &[u8]) -> Table {
 
 // Decodes all the words, prints refusal and count, and hands on the table.
 pub fn decode(words: &[u32], text: &[u8]) -> Table {
-    let decoded = image::decode(words);
+    let decoded = image_reader::decode(words);
     let answer = decoded.answer;
     print::print_two(text, replies::check_number(answer), decoded.table.count);
     decoded.table
