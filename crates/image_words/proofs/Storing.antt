@@ -41,19 +41,19 @@ module _ (table d size : List ℕ) where
   unfolding fitsEncode
   no-size a l = unfit (rw (le-leb _ _ a, lt-leb _ _ l))
 
-  fit : tableLength ≤ length table → 1 ≤ length size → fitsEncode table size ≡ true
+  enough : tableLength ≤ length table → 1 ≤ length size → fitsEncode table size ≡ true
   unfolding fitsEncode
-  fit a b = and-i _ _ (le-leb _ _ a) (le-leb _ _ b)
+  enough a b = and-i _ _ (le-leb _ _ a) (le-leb _ _ b)
 
   -- what encode answers and leaves where the runs are long enough
   module _ (a : tableLength ≤ length table) (b : 1 ≤ length size) (d′ : List ℕ) (w : d′ ≡ encodeWords (tableFrom table) d) where
     pub encoded : (n : ℕ) → replyOfEncode (encode.Encoded n) ≡ encodeReply (tableFrom table) d → Leaves table d size 0 d′ (set size 0 n)
     unfolding afterEncode withSize replyOfEncode
-    encoded n e = (rw (fit a b, ← e), (rw (fit a b) w, rw (fit a b, ← e)))
+    encoded n e = (rw (enough a b, ← e), (rw (enough a b) w, rw (enough a b, ← e)))
 
     pub unencoded : (r : Refusal) → replyOfEncode (encode.Refused r) ≡ encodeReply (tableFrom table) d → Leaves table d size (numberOf r) d′ size
     unfolding afterEncode withSize replyOfEncode
-    unencoded r e = (rw (fit a b, ← e), (rw (fit a b) w, rw (fit a b, ← e, ne-eqb (numberOf r) 0 (number-not-zero r))))
+    unencoded r e = (rw (enough a b, ← e), (rw (enough a b) w, rw (enough a b, ← e, ne-eqb (numberOf r) 0 (number-not-zero r))))
 
 -- the number of a check is that of its reply
 check-number-reply : (a : Check) → checkNumber a ≡ replyOfCheck a .refusal
