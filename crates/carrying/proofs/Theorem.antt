@@ -8,7 +8,6 @@ use native.Mathlib.Omega.{arith}
 use lib.Dec.{eqb}
 use Rattle.counters.specs.Counter.{grown}
 use Rattle.table.specs.declared.Table.{Table}
-use Rattle.table.specs.Parts.{openedOf}
 use Rattle.table.specs.Sound.{sound}
 use Rattle.table.proofs.Soundness.{Arrays}
 use Rattle.replies.specs.declared.Reply.{Reply}

@@ -12,7 +12,6 @@ use Rattle.lists.specs.Below.{nth, joinBelow}
 use Rattle.lists.proofs.Below.{length-join, join-at, join-cong}
 use Rattle.words.specs.Word.{tagged}
 use Rattle.words.proofs.Words.{content-only}
-use Rattle.placement.specs.declared.Fraction.{Fraction}
 use Rattle.table.specs.declared.Table.{Table}
 use Rattle.table.specs.Parts.{weightOf, usedOf, readP, openedOf}
 use Rattle.image.specs.Layout.{headWords, partWords, partAt, imageLength, serverWords, serverImage, counterImage, imageOf}

@@ -1,19 +1,19 @@
 -- Laws of words that are read: the table of their contents is that of an image, and its image is the words.
 -- Assumes nothing.
-use Prim.Native.Nat.{ℕ, zero, suc, _+_, _-_, _*_, _/_, _%_, _≤_, _<_}
-use mathlib.Core.Path.{_≡_, refl, sym, ap, ap₂, subst, _∙_}
+use Prim.Native.Nat.{ℕ, zero, suc, _+_, _-_, _/_, _%_, _≤_, _<_}
+use mathlib.Core.Path.{_≡_, refl, sym, ap, ap₂, _∙_}
 use mathlib.Core.Bool.{true, false}
 use mathlib.Core.Logic.{_≢_}
-use mathlib.Core.List.{List, [], _∷_, _++_}
+use mathlib.Core.List.{List}
 use native.Mathlib.Omega.{arith}
 use lib.ListN.{length, replicate, length-replicate}
 use lib.Seq.{ext-getD}
-use lib.Dec.{eqb, ltb, leb}
-use borrow.Author.Tests.{eqb-true, eq-eqb, leb-true, le-leb, ltb-true, ltb-false}
+use lib.Dec.{eqb, ltb}
+use borrow.Author.Tests.{eqb-true, eq-eqb, ltb-true, ltb-false}
 use Rattle.limits.specs.Limits.{maxServers, contentRange, tenants}
-use Rattle.lists.specs.Below.{nth, allBelow}
+use Rattle.lists.specs.Below.{nth}
 use Rattle.lists.proofs.Tests.{byBool, true-not-false, and-l, and-r, and-i}
-use Rattle.lists.proofs.Below.{allBelow-in, allBelow-out, allBelow-cong, setBelow-at, setBelow-above, length-setBelow, nth-zeros}
+use Rattle.lists.proofs.Below.{allBelow-in, allBelow-out, setBelow-at, setBelow-above, length-setBelow, nth-zeros}
 use Rattle.words.specs.Word.{tagOf, contentOf, tagged}
 use Rattle.words.proofs.Words.{tag-back, content-back, word-back}
 use Rattle.counters.specs.Counter.{inBounds}
@@ -28,7 +28,7 @@ use Rattle.replies.specs.Reply.{refused, accepted, replyBy}
 use Rattle.image.specs.Layout.{headWords, partWords, partAt, imageLength, serverImage, imageOf}
 use Rattle.image.specs.Decoding.{tagAt, contentAt, countIn, columnIn, countersIn, tableIn, headTagged, serverTagged, counterTagged, eachTagged, isImage, decodeRows, decodeReply, decodeTable}
 use Rattle.image.specs.Promises.{EqualBelow, ZerosAbove}
-use Rattle.image.proofs.Images.{length-image, capacity-at, salt-at, server-at, counter-at, equal-image}
+use Rattle.image.proofs.Images.{length-image, capacity-at, salt-at, server-at, counter-at}
 
 -- what is read of a server below the count, and of one at or above it
 column-at : (words : List ℕ) (place n k : ℕ) → n ≤ maxServers → k < n → nth (columnIn words place n) k ≡ contentAt words (partAt k + place)

@@ -2,10 +2,10 @@
 -- Assumes nothing.
 use Prim.Native.Nat.{ℕ, _≤_}
 use mathlib.Core.Path.{_≡_, refl, sym, ap, subst, _∙_}
-use mathlib.Core.Bool.{true, false}
-use mathlib.Core.List.{List, _++_}
+use mathlib.Core.Bool.{true}
+use mathlib.Core.List.{List}
 use native.Mathlib.Omega.{arith}
-use lib.ListN.{length, take, drop}
+use lib.ListN.{length, drop}
 use lib.Seq.{take-at}
 use lib.Dec.{ltb}
 use borrow.Author.Tests.{ltb-true, ltb-false}
@@ -19,11 +19,11 @@ use Rattle.replies.specs.Reply.{accepted}
 use Rattle.replies.specs.Refusal.{rising}
 use Rattle.image.specs.declared.EncodeAnswer.the-variants as encode
 use Rattle.image.specs.Layout.{imageLength, imageOf}
-use Rattle.image.specs.Encoding.{EncodeReply, encodeRows, replyOfEncode, encodeReply, encodeWords}
+use Rattle.image.specs.Encoding.{EncodeReply, encodeRows, replyOfEncode, encodeReply}
 use Rattle.image.specs.Decoding.{tableIn, isImage, decodeReply, decodeTable}
 use Rattle.image.specs.Promises.{ZerosAbove, Images, Accepts, Reads, WritesAgain, written, ReadsAgain}
 use Rattle.image.proofs.Images.{length-image, equal-image, image-equal}
-use Rattle.image.proofs.Reading.{read-back, image-taken, taken-sound, image-back, zeros-above, read-arrays, decode-refused, decode-done}
+use Rattle.image.proofs.Reading.{image-taken, taken-sound, image-back, zeros-above, read-arrays, decode-refused, decode-done}
 use Rattle.image.proofs.Writing.{rows-unsound, rows-short, encode-number, encode-settled}
 
 pub images : Images

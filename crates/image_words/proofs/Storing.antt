@@ -1,8 +1,8 @@
 -- What encode and decode leave in each run of words, by what was tested and what their callees ensure, on plain values.
 -- Assumes nothing.
 use Prim.Native.Nat.{ℕ, _≤_, _<_}
-use mathlib.Core.Path.{_≡_, refl, sym, ap, _∙_}
-use mathlib.Core.Bool.{true, false, _&&_}
+use mathlib.Core.Path.{_≡_, refl, ap, _∙_}
+use mathlib.Core.Bool.{true, false}
 use mathlib.Core.List.{List}
 use lib.ListN.{length, set}
 use borrow.Author.Tests.{ne-eqb, le-leb, lt-leb, lt-ltb}
@@ -15,12 +15,11 @@ use Rattle.replies.specs.declared.Check.{Check}
 use Rattle.replies.specs.declared.Check.the-variants as check
 use Rattle.replies.specs.Reply.{numberOf, checkNumber, replyOfCheck}
 use Rattle.replies.proofs.Answers.{number-not-zero}
-use Rattle.image.specs.declared.EncodeAnswer.{EncodeAnswer}
 use Rattle.image.specs.declared.EncodeAnswer.the-variants as encode
-use Rattle.image.specs.Encoding.{EncodeReply, replyOfEncode, encodeReply, encodeWords}
+use Rattle.image.specs.Encoding.{replyOfEncode, encodeReply, encodeWords}
 use Rattle.image.specs.Decoding.{decodeReply, decodeTable}
 use Rattle.encoding.specs.Encoding.{tooShort}
-use Rattle.image_words.specs.ImageWords.{AfterEncode, withSize, fitsEncode, afterEncode, decodeNumber, afterDecode}
+use Rattle.image_words.specs.ImageWords.{withSize, fitsEncode, afterEncode, decodeNumber, afterDecode}
 
 -- what a run of encode has to show: its number, the destination and the size
 abbrev Leaves : List ℕ → List ℕ → List ℕ → ℕ → List ℕ → List ℕ → Type 0

@@ -1,6 +1,5 @@
 -- Tables that agree below the count, and whose counters are alike within their bounds, are alike sound.
 -- Assumes nothing.
-use Prim.Native.Nat.{ℕ, _<_}
 use mathlib.Core.Bool.{true}
 use mathlib.Core.Path.{_≡_, sym, _∙_}
 use native.Mathlib.Omega.{arith}

@@ -1,7 +1,7 @@
 -- `image_reader::read_servers` meets its contract. The invariant: the words of the servers passed are read, and whether each of
 -- them has its tag.
 use Prim.Native.Nat.{_-_, _≤_}
-use mathlib.Core.Path.{_≡_, refl, ap, _∙_}
+use mathlib.Core.Path.{_≡_, refl, _∙_}
 use native.Mathlib.Omega.{arith}
 use borrow.Author.Needs.{needs}
 use Rattle.limits.specs.Limits.{maxServers}

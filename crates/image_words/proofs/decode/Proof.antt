@@ -1,6 +1,5 @@
 -- `image_words::decode` meets its contract: by whether there is room for a table.
-use Prim.Native.Nat.{_<_}
-use mathlib.Core.Path.{_≡_, ap}
+use mathlib.Core.Path.{ap}
 use native.Mathlib.Omega.{arith}
 use borrow.Author.Needs.{needs}
 use Rattle.table.specs.declared.Table.{Table}

@@ -1,5 +1,4 @@
 -- `image_words::encode` meets its contract: by whether the runs are long enough, then by what encode answers.
-use Prim.Native.Nat.{_≤_}
 use mathlib.Core.Path.{_≡_, sym, ap, _∙_}
 use native.Mathlib.Omega.{arith}
 use borrow.Author.Needs.{needs}

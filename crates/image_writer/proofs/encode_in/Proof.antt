@@ -1,5 +1,5 @@
 -- `image_writer::encode_in` meets its contract: a return for each row, and the image stored.
-use mathlib.Core.Path.{_≡_, refl, sym, _∙_}
+use mathlib.Core.Path.{_≡_, sym, _∙_}
 use mathlib.Core.Bool.{Bool, true, false}
 use native.Mathlib.Omega.{arith}
 use borrow.Author.Needs.{needs}

@@ -1,5 +1,4 @@
 -- `image_writer::store_image` meets its contract: two words, the servers and the counters.
-use Prim.Native.Nat.{_<_}
 use mathlib.Core.Path.{_≡_, _∙_}
 use native.Mathlib.Omega.{arith}
 use lib.ListN.{length, length-set}
