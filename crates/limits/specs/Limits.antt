@@ -32,3 +32,7 @@ tenantRange = 134217728
 -- 2^30 - 1, where a counter of opened servers stops
 abbrev pub maxCounter : ℕ
 maxCounter = 1073741823
+
+-- as many burns as any call makes: 2^24 marks, one for each entry, and two words of an entry
+abbrev pub allBurns : ℕ
+allBurns = 16777218

@@ -24,6 +24,9 @@ pub const TENANT_RANGE: u32 = 134217728;
 // 2^30 - 1, where a counter of opened servers stops.
 pub const MAX_COUNTER: u32 = 1073741823;
 
+// As many burns as any call makes: 2^24 marks, one for each entry, and two words of an entry.
+pub const ALL_BURNS: usize = 16777218;
+
 // A column of a table: it has a number for each server that there may be.
 pub type Column = [u32; MAX_SERVERS];
 

@@ -1,7 +1,7 @@
 -- Laws of testing, choosing, counting and adding among the numbers below n.
 -- Assumes nothing.
 use Prim.Native.Nat.{ℕ, zero, suc, _+_, _-_, _*_, _≤_, _<_}
-use mathlib.Core.List.{List, [], _∷_, _++_, append-assoc, List·Memᴰ, List·Memᴰ·head, List·Memᴰ·not-nil, List·Memᴰ·append-cases, List·Memᴰ·eq-of-singleton, Memᴰ·append-left, Memᴰ·append-right}
+use mathlib.Core.List.{List, [], _∷_, _++_, append-nil, append-assoc, List·Memᴰ, List·Memᴰ·head, List·Memᴰ·not-nil, List·Memᴰ·append-cases, List·Memᴰ·eq-of-singleton, Memᴰ·append-left, Memᴰ·append-right}
 use mathlib.Core.Logic.{_⊎_, inl, inr}
 use lib.ListN.{length, set, replicate, length-set, length-replicate, length-append, getD-replicate, List·getD-append}
 use lib.Seq.{sets, getD-set-same, getD-set-other, getD-append-add, ext-getD}
@@ -192,6 +192,16 @@ upward-none p (suc n) h = rw (h n (omega arith), upward-none p n (λ k l. h k (o
 pub upward-more : (p : ℕ → Bool) (n : ℕ) (b : Bool) → p n ≡ b → upward p (n + 1) ≡ upward p n ++ cond b (n ∷ []) []
 unfolding upward
 upward-more p n b e = rw (add-one, e)
+
+-- the highest that passes comes last
+pub upward-last : (p : ℕ → Bool) (n k : ℕ) → k < n → p k ≡ true → ((j : ℕ) → k < j → j < n → p j ≡ false) → upward p n ≡ upward p k ++ (k ∷ [])
+unfolding upward
+upward-last p zero k l q h = absurd (omega arith)
+upward-last p (suc n) k l q h = byBool (eqb k n)
+    (λ d. rw (← (eqb-true k n d), q))
+    (λ d.
+    let i : k < n = omega (arith, eqb-false k n d) in
+    rw (h n i (omega arith), append-nil) (upward-last p n k i q (λ j a b. h j a (omega arith))))
 
 -- how many pass
 pub countBelow-cong : (p q : ℕ → Bool) (n : ℕ) → ((k : ℕ) → k < n → p k ≡ q k) → countBelow p n ≡ countBelow q n

@@ -21,10 +21,10 @@ burnAll m (b ∷ bs) = burnAll (set m (b .address) (b .word)) bs
 unfoldable pub marksOn : ℕ → ℕ → List ℕ → ℕ → ℕ → List ℕ
 marksOn capacity used m id k = map (markAt capacity k) (upward (live capacity used m id k) used)
 
--- the same on those of the servers below n that pass, the highest server first
+-- the same on those of the servers below n that pass, the lowest server first (document 02, item 7)
 unfoldable pub marksOver : ℕ → (ℕ → ℕ) → List ℕ → ℕ → (ℕ → Bool) → ℕ → List ℕ
 marksOver capacity used m id p zero = []
-marksOver capacity used m id p (suc k) = cond (p k) (marksOn capacity (used k) m id k) [] ++ marksOver capacity used m id p k
+marksOver capacity used m id p (suc k) = marksOver capacity used m id p k ++ cond (p k) (marksOn capacity (used k) m id k) []
 
 -- the burns that invalidate, the paper's voids: a mark of this content at each of these addresses
 unfoldable pub invalidations : ℕ → List ℕ → List Burn

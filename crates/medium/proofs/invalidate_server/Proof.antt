@@ -1,124 +1,59 @@
--- `medium::invalidate_server` meets its contract. The invariant: the entries passed are done, as `Invalidated` says, and the
--- running address is the next one's.
-use Prim.Native.Nat.{_+_, _-_, _≤_, _<_}
-use mathlib.Core.Path.{_≡_}
-use mathlib.Core.Logic.{⊎-elim}
+-- `medium::invalidate_server` meets its contract: there are burns for every entry, or not.
+use Prim.Native.Nat.{_-_}
+use mathlib.Core.Path.{sym, ap, _∙_}
 use native.Mathlib.Omega.{arith}
 use borrow.Author.Needs.{needs}
-use lib.ListN.{length}
-use Rattle.medium.specs.Entry.{entryAt, bears}
-use Rattle.medium.proofs.Places.{entry-inside, entry-small, entry-next}
-use Rattle.medium.proofs.Invalidated.{Invalidated, none-done, one-more, none-more, all-done}
+use Rattle.medium.specs.Burn.{burnAll}
+use Rattle.medium.proofs.Marks.{length-marksOn}
+use Rattle.medium.proofs.Invalidated.{all-made}
 use Rattle.medium.proofs.invalidate_server.Statement.{statement}
 use Rattle.medium.proofs.invalidate_server.Tie as tie
 
-abbrev Inv-loop : tie.InvT-loop
-Inv-loop medium₀ capacity used id server content n₀ j₀ at₀ medium n j at =
-    (j ≤ used) × (at ≡ entryAt capacity server j) × Invalidated capacity used medium₀ id server content j medium n
+-- the start
+abbrev S : tie.After-mark-all → tie.Start
+S c = c .before .before .before .before
 
-abbrev μ-loop : tie.MeasureT-loop
-μ-loop medium₀ capacity used id server content n₀ j₀ at₀ medium n j at = used - j
+add-if1 : tie.Need-add-if1
+add-if1 c = search needs
 
--- the start, and the loop's head
-abbrev S : tie.At-loop Inv-loop μ-loop → tie.Start Inv-loop μ-loop
-S l = l .before .before .before
+mark-all-requires : tie.Need-mark-all-requires
+mark-all-requires c κs = search needs
 
-abbrev L : tie.After-bears Inv-loop μ-loop → tie.At-loop Inv-loop μ-loop
-L c = c .before .before .before
+add-result : tie.Need-add-result
+add-result c =
+    let w = c .before .before in
+    let a = S w .args in
+    omega (arith, w .mark-all .ensures .0, length-marksOn (a .capacity) (a .used) (a .medium .now) (a .id) (a .server), S w .pre)
 
-entry-at-requires : tie.Need-entry-at-requires Inv-loop μ-loop
-entry-at-requires c κs = search needs
+same-length : tie.Need-same-length
+same-length c = search needs
 
-loop-holds : tie.Need-loop-holds Inv-loop μ-loop
-loop-holds c =
-    let a = c .before .before .args in
-    (search needs, c .entry-at .ensures, none-done (a .capacity) (a .used) (a .medium .now) (a .id) (a .server) (a .content))
-
--- the entry's words lie inside the medium, and its address is small
-room : (c : tie.In-loop Inv-loop μ-loop) → (c .before .loop .at + 2 < length (c .before .loop .medium)) × (c .before .loop .at ≤ 50331648)
-room c =
-    let l = c .before in
-    let a = S l .args in
-    let p = S l .pre .0 in (
-      omega (arith, entry-inside (a .capacity) (a .server) (l .loop .j) 2 (a .medium .now) p (omega arith) (omega arith)),
-      omega (arith, entry-small (a .capacity) (a .server) (l .loop .j) (p .small) (p .few) (omega arith)),
-    )
-
-bears-requires : tie.Need-bears-requires Inv-loop μ-loop
-bears-requires c κs = room (c .before) .0
-
-add-medium : tie.Need-add-medium Inv-loop μ-loop
-add-medium c = search needs
-
-add-medium-2 : tie.Need-add-medium-2 Inv-loop μ-loop
-add-medium-2 c = omega (arith, room (c .before .before .before))
-
-mul-medium : tie.Need-mul-medium Inv-loop μ-loop
-mul-medium c = omega (arith, room (c .before .before .before))
-
-slice-write-medium : tie.Need-slice-write-medium Inv-loop μ-loop
-slice-write-medium c = omega (arith, room (c .before .before .before))
-
-add-n : tie.Need-add-n Inv-loop μ-loop
-add-n c = search needs
-
-add-at : tie.Need-add-at Inv-loop μ-loop
-add-at c = omega (arith, room (c .before .before .before))
-
-add-j : tie.Need-add-j Inv-loop μ-loop
-add-j c = search needs
-
-loop-less : tie.Need-loop-less Inv-loop μ-loop
-loop-less c = search needs
-
-loop-again : tie.Need-loop-again Inv-loop μ-loop
-loop-again c =
-    let l = L (c .before) in
-    let a = S l .args in
-    let m = l .loop .medium in
-    let i = l .loop .inv in
-    let t = c .before .bears .result in
-    let below : l .loop .j < a .used = omega arith in
-    let test : t ≡ bears (a .capacity) m (a .id) (a .server) (l .loop .j) = rw (i .1) at (c .before .bears .ensures) in (
-      search needs,
-      omega (arith, i .1, entry-next (a .capacity) (a .server) (l .loop .j)),
-      ⊎-elim
-          (λ w.
-          one-more (a .capacity) (a .used) (a .medium .now) (a .id) (a .server) (a .content) (l .loop .j) m (l .loop .n) (S l .pre .1 .0) below (i .2)
-          t test (c .if1 .medium) (c .if1 .n) (w .0 .taken) (rw (i .1) at (w .1)) (w .2))
-          (λ w.
-          none-more (a .capacity) (a .used) (a .medium .now) (a .id) (a .server) (a .content) (l .loop .j) m (l .loop .n) (S l .pre .1 .0) below (i .2)
-          t test (c .if1 .medium) (c .if1 .n) (w .0 .left) (w .1) (w .2))
-          (c .if1 .came),
-    )
-
-same-length : tie.Need-same-length Inv-loop μ-loop
-same-length c = c .before .loop .inv .2 .long
-
-returns : tie.Need-returns Inv-loop μ-loop
+returns : tie.Need-returns
 returns c =
-    let l = c .before in
-    let a = S l .args in
-    let e : l .loop .j ≡ a .used = omega arith in
-    all-done (a .capacity) (a .used) (a .medium .now) (a .id) (a .server) (a .content) (l .loop .medium) (l .loop .n) (rw e at (l .loop .inv .2))
+    let w = c .before .before in
+    let a = S w .args in (
+      omega (arith, w .mark-all .ensures .0),
+      w .mark-all .ensures .1 ∙ ap (burnAll (a .medium .now)) (sym (all-made (a .capacity) (a .used) (a .medium .now) (a .id) (a .server) (a .content) (a .burns - a .n) (omega (arith, w .before .before .if1 .taken)))),
+    )
+
+mark-some-requires : tie.Need-mark-some-requires
+mark-some-requires c κs = search needs
+
+same-length-2 : tie.Need-same-length-2
+same-length-2 c = search needs
+
+returns-2 : tie.Need-returns-2
+returns-2 c = search needs
 
 pub invalidate-server-spec : {M : Type 1} → statement M
 invalidate-server-spec =
     tie.close
     (tie.spec
-    Inv-loop
-    μ-loop
-    entry-at-requires
-    loop-holds
-    bears-requires
-    add-medium
-    add-medium-2
-    mul-medium
-    slice-write-medium
-    add-n
-    add-at
-    add-j
-    loop-less
-    loop-again
+    add-if1
+    mark-all-requires
+    add-result
     same-length
-    returns)
+    returns
+    mark-some-requires
+    same-length-2
+    returns-2)
