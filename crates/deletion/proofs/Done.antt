@@ -7,7 +7,8 @@ use mathlib.Core.Bool.{Bool, false, cond, not}
 use mathlib.Core.List.{List, [], _∷_, List·Memᴰ·head, List·Memᴰ·not-nil}
 use mathlib.Core.Option.{Option, none, some}
 use native.Mathlib.Omega.{arith}
-use lib.ListN.{length}
+use lib.ListN.{length, take}
+use lib.Seq.{take-nil}
 use lib.Dec.{eqb}
 use borrow.Author.Tests.{eq-eqb, ne-eqb, le-leb}
 use Rattle.lists.proofs.Tests.{byBool}
@@ -26,7 +27,7 @@ use Rattle.checks.specs.Ready.{askedRows}
 use Rattle.checks.proofs.Passed.{asked-numbered}
 use Rattle.search.specs.Search.{searchFor, Place}
 use Rattle.search.proofs.Searches.{met-some, met-none}
-use Rattle.deletion.specs.Deletion.{isMet, deleteRows, deleteMarks, deleteReply, deleteMedium}
+use Rattle.deletion.specs.Deletion.{isMet, deleteRows, deleteMarks, deleteReply, deleteSomeMedium}
 
 module _ (t : Table) (m : List ℕ) (id : ℕ) where
   -- every server is at or above 0
@@ -55,25 +56,25 @@ module _ (t : Table) (m : List ℕ) (tenant id : ℕ) (z : firstOf (askedRows t 
       first-later _ _ (asked-numbered t m tenant id false) z
       ∙ byBool (isMet (searchFor t m id .met)) (λ f. rw f) (λ f. rw f)
 
-  module _ (n : ℕ) (m′ : List ℕ)
+  module _ (burns n : ℕ) (m′ : List ℕ)
       (count : n ≡ length (deleteMarks t m id))
-      (words : m′ ≡ burnAll m (invalidations deleted (deleteMarks t m id))) where
+      (words : m′ ≡ burnAll m (take burns (invalidations deleted (deleteMarks t m id)))) where
     delete-number : firstOf (deleteRows t m tenant id) ≡ cond (not (eqb n 0)) 0 8
     delete-number = delete-last ∙ ap (λ (b : Bool). cond b 0 8) (deleted-some t m id ∙ ap (λ (x : ℕ). not (eqb x 0)) (sym count))
 
-    nothing : (l : List ℕ) → length l ≡ 0 → burnAll m (invalidations deleted l) ≡ m
+    nothing : (l : List ℕ) → length l ≡ 0 → burnAll m (take burns (invalidations deleted l)) ≡ m
     unfolding burnAll invalidations
-    nothing [] e = refl
+    nothing [] e = rw take-nil
     nothing (a ∷ l) e = absurd (omega arith)
 
-    pub deleted-none : n ≡ 0 → (refused 8 0 ≡ deleteReply t m tenant id) × (m′ ≡ deleteMedium t m tenant id)
-    unfolding deleteReply deleteMedium numberOf
+    pub deleted-none : n ≡ 0 → (refused 8 0 ≡ deleteReply t m tenant id) × (m′ ≡ deleteSomeMedium t m tenant id burns)
+    unfolding deleteReply deleteSomeMedium numberOf
     deleted-none e =
         let q : numberOf NotFound ≡ firstOf (deleteRows t m tenant id) = sym (delete-number ∙ rw (eq-eqb n 0 e)) in
         (reply-refused (deleteRows t m tenant id) NotFound q _, words ∙ nothing _ (sym count ∙ e) ∙ kept (deleteRows t m tenant id) NotFound q _ m)
 
-    pub deleted-done : n ≢ 0 → (onServer 0 n ≡ deleteReply t m tenant id) × (m′ ≡ deleteMedium t m tenant id)
-    unfolding deleteReply deleteMedium
+    pub deleted-done : n ≢ 0 → (onServer 0 n ≡ deleteReply t m tenant id) × (m′ ≡ deleteSomeMedium t m tenant id burns)
+    unfolding deleteReply deleteSomeMedium
     deleted-done f =
         let q : firstOf (deleteRows t m tenant id) ≡ 0 = delete-number ∙ rw (ne-eqb n 0 f) in
         (ap (onServer 0) count ∙ sym (reply-done (deleteRows t m tenant id) q _), words ∙ sym (settle-yes (deleteRows t m tenant id) _ m q))
@@ -83,8 +84,8 @@ pub delete-ready : (t : Table) (m : List ℕ) (tenant id : ℕ) → firstOf (del
 unfolding deleteRows
 delete-ready t m tenant id z = passed-both _ _ (asked-numbered t m tenant id false) z .0
 
-pub delete-refused : (t : Table) (m : List ℕ) (tenant id : ℕ) (r : Refusal) → numberOf r ≡ firstOf (askedRows t m tenant id false) → (refused (numberOf r) 0 ≡ deleteReply t m tenant id) × (m ≡ deleteMedium t m tenant id)
-unfolding deleteReply deleteMedium deleteRows
-delete-refused t m tenant id r e =
+pub delete-refused : (t : Table) (m : List ℕ) (tenant id burns : ℕ) (r : Refusal) → numberOf r ≡ firstOf (askedRows t m tenant id false) → (refused (numberOf r) 0 ≡ deleteReply t m tenant id) × (m ≡ deleteSomeMedium t m tenant id burns)
+unfolding deleteReply deleteSomeMedium deleteRows
+delete-refused t m tenant id burns r e =
     let same : numberOf r ≡ firstOf (deleteRows t m tenant id) = e ∙ sym (first-earlier _ _ (asked-numbered t m tenant id false) (λ z. number-not-zero r (e ∙ z))) in
     (reply-refused (deleteRows t m tenant id) r same _, kept (deleteRows t m tenant id) r same _ m)

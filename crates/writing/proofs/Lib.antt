@@ -1,3 +1,4 @@
 pub mod Accepted
+pub mod Whole
 mod NewEntry
 mod Done

@@ -1,8 +1,10 @@
--- Write (document 01, "The calls"): its reply, and the table and the medium that it leaves. t is the table and m the medium as
--- lent.
+-- Write (document 01, "The calls"; document 02, item 7): its reply, and the table and the medium that it leaves, whole and with a
+-- number of burns. t is the table and m the medium as lent.
 use Prim.Native.Nat.{ℕ}
+use mathlib.Core.Bool.{cond}
 use mathlib.Core.List.{List, _∷_}
-use lib.ListN.{length}
+use lib.ListN.{length, take}
+use lib.Dec.{leb}
 use Rattle.medium.specs.Word.{idWord, valueWord, replaced}
 use Rattle.medium.specs.Entry.{entryAt, valueAt}
 use Rattle.medium.specs.Burn.{Burn, burnAll, invalidations}
@@ -35,3 +37,12 @@ writeTable t m tenant id value = settle (writeRows t m tenant id value) (withEnt
 
 unfoldable pub writeMedium : Table → List ℕ → ℕ → ℕ → ℕ → List ℕ
 writeMedium t m tenant id value = settle (writeRows t m tenant id value) (burnAll m (writeBurns t m id value)) m
+
+-- The body, of which the plain call is the one with no burn left over. With a number of burns n it makes the first n of them, all
+-- where there are no more; the reply is the plain call's, whatever n is. Where burns are left over the table is as lent.
+unfoldable pub writeSomeTable : Table → List ℕ → ℕ → ℕ → ℕ → ℕ → Table
+writeSomeTable t m tenant id value n =
+    settle (writeRows t m tenant id value) (cond (leb (length (writeBurns t m id value)) n) (withEntry t (target t id)) t) t
+
+unfoldable pub writeSomeMedium : Table → List ℕ → ℕ → ℕ → ℕ → ℕ → List ℕ
+writeSomeMedium t m tenant id value n = settle (writeRows t m tenant id value) (burnAll m (take n (writeBurns t m id value))) m

@@ -47,7 +47,7 @@ same-length c = search needs
 
 returns : tie.Need-returns
 unfolding replyOfDelete
-returns c = let r = c .before .before .before in delete-refused (T r) (M r) (S r .args .tenant) (S r .args .id) _ (refused-here (c .before))
+returns c = let r = c .before .before .before in delete-refused (T r) (M r) (S r .args .tenant) (S r .args .id) (S r .args .burns) _ (refused-here (c .before))
 
 enum-told : tie.Need-enum-told
 enum-told c = search needs
@@ -70,7 +70,7 @@ returns-2 c =
     let i = c .before .before .before in
     let e = E i in
     let r = e .before .before in
-    deleted-none (T r) (M r) (S r .args .tenant) (S r .args .id) (accepted-here e) _ _ (i .invalidate .ensures .0) (i .invalidate .ensures .1) (c .if1 .taken)
+    deleted-none (T r) (M r) (S r .args .tenant) (S r .args .id) (accepted-here e) (S r .args .burns) _ _ (i .invalidate .ensures .0) (i .invalidate .ensures .1) (c .if1 .taken)
 
 same-length-3 : tie.Need-same-length-3
 same-length-3 c = search needs
@@ -81,7 +81,7 @@ returns-3 c =
     let i = c .before .before .before in
     let e = E i in
     let r = e .before .before in
-    deleted-done (T r) (M r) (S r .args .tenant) (S r .args .id) (accepted-here e) _ _ (i .invalidate .ensures .0) (i .invalidate .ensures .1) (c .if1 .left)
+    deleted-done (T r) (M r) (S r .args .tenant) (S r .args .id) (accepted-here e) (S r .args .burns) _ _ (i .invalidate .ensures .0) (i .invalidate .ensures .1) (c .if1 .left)
 
 pub delete-in-spec : {M : Type 1} → statement M
 delete-in-spec =

@@ -1,77 +1,21 @@
--- `writing::write` meets its contract: what the write on borrowed columns answers, and the table by that answer.
-use mathlib.Core.Path.{_∙_}
-use mathlib.Core.List.{List}
-use Prim.Native.Nat.{ℕ}
+-- `writing::write` meets its contract: no write has more burns than it hands on.
 use borrow.Author.Needs.{needs}
-use Rattle.table.specs.declared.Table.{Table}
-use Rattle.writing.proofs.Accepted.{WrittenTo}
-use Rattle.writing.proofs.Done.{answered-written, answered-refused}
+use Rattle.writing.proofs.Whole.{write-plain}
 use Rattle.writing.proofs.write.Statement.{statement}
 use Rattle.writing.proofs.write.Tie as tie
 
-steps-requires : tie.Need-steps-requires
-steps-requires c κs = search needs
-
-slice-aggregate-write-in : tie.Need-slice-aggregate-write-in
-slice-aggregate-write-in c = search needs
-
-write-in-requires : tie.Need-write-in-requires
-write-in-requires c κs = search needs
-
-enum-told : tie.Need-enum-told
-enum-told c = search needs
-
-enum-known-answer : tie.Need-enum-known-answer
-enum-known-answer c = search needs
-
--- where the write is answered, and the call's arguments
-abbrev W : tie.After-slice-known2 → tie.After-write-in
-W c = c .before .before
-
-abbrev S : tie.After-write-in → tie.Start
-S c = c .before .before .before .before .before .before .before .before .before .before .before .before .before .before .before .before
-
-abbrev T : tie.After-write-in → Table
-T c = S c .args .t1
-
-abbrev M : tie.After-write-in → List ℕ
-M c = S c .args .medium .now
-
--- the write as it was answered
-written-to-here : (c : tie.After-answer) → let w = W (c .before .before) in WrittenTo (T w) (M w) (S w .args .tenant) (S w .args .id) (S w .args .value) (c .answer .given .0 .0)
-written-to-here c = let w = W (c .before .before) in answered-written (T w) (M w) (S w .args .tenant) (S w .args .id) (S w .args .value) (w .write-in .ensures .0) (c .answer .given .1)
-
-with-entry-requires : tie.Need-with-entry-requires
-with-entry-requires c κs = let f = written-to-here (c .before) in (f .isSound, f .there)
+write-some-requires : tie.Need-write-some-requires
+write-some-requires c κs = search needs
 
 same-length : tie.Need-same-length
 same-length c = search needs
 
 returns : tie.Need-returns
 returns c =
-    let w = W (c .before .before) in
-    (w .write-in .ensures .0, (answered-refused (T w) (M w) (S w .args .tenant) (S w .args .id) (S w .args .value) (w .write-in .ensures .0) (c .enum-told .given .1), w .write-in .ensures .1))
-
-same-length-2 : tie.Need-same-length-2
-same-length-2 c = search needs
-
-returns-2 : tie.Need-returns-2
-returns-2 c =
-    let a = c .before .before in
-    let w = W (a .before .before) in
-    (rw (← a .answer .given .1) (w .write-in .ensures .0), (c .with-entry .ensures ∙ written-to-here a .table, w .write-in .ensures .1))
+    let d = c .before .before in
+    let a = d .before .before .before .args in
+    let w = write-plain (a .table) (a .medium .now) (a .tenant) (a .id) (a .value) in
+    (d .write-some .ensures .0, (rw (← w .table) (d .write-some .ensures .1 .0), rw (← w .medium) (d .write-some .ensures .1 .1)))
 
 pub write-spec : {M : Type 1} → statement M
-write-spec =
-    tie.close
-    (tie.spec
-    steps-requires
-    slice-aggregate-write-in
-    write-in-requires
-    enum-told
-    enum-known-answer
-    with-entry-requires
-    same-length
-    returns
-    same-length-2
-    returns-2)
+write-spec = tie.close (tie.spec write-some-requires same-length returns)

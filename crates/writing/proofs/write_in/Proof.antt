@@ -14,7 +14,7 @@ use Rattle.replies.proofs.Refusals.{settle-yes}
 use Rattle.planning.specs.Plan.{planNumber, planServer}
 use Rattle.planning.specs.WriteRows.{target, writeRows}
 use Rattle.planning.proofs.Passed.{WriteAccepted, write-accepted}
-use Rattle.writing.proofs.Done.{write-refused, inside-set, written}
+use Rattle.writing.proofs.Done.{write-refused, inside-burned, written}
 use Rattle.writing.proofs.write_in.Statement.{statement}
 use Rattle.writing.proofs.write_in.Tie as tie
 
@@ -100,12 +100,15 @@ enter-requires c κs =
     let i = facts p .inside in
     (omega (arith, e .entry-at .ensures, entry-in (t .capacity) (t .count) (server p) (usedOf t (server p)) 2 (there p) (free p) (omega arith)), facts p .small)
 
+left-over-requires : tie.Need-left-over-requires
+left-over-requires c κs = search needs
+
 invalidate-requires : tie.Need-invalidate-requires
 invalidate-requires c κs =
-    let e = c .before .before .before in
+    let e = c .before .before .before .before in
     let p = P (e .before .before .before) in
     let s = S (W p) in
-    (s .pre .0, (rw (e .enter .ensures) (inside-set _ _ _ _ _ _ _ _ (facts p .inside)), (search needs, s .pre .1)))
+    (s .pre .0, (rw (e .enter .ensures) (inside-burned _ _ _ _ _ (facts p .inside)), (search needs, s .pre .1)))
 
 same-length : tie.Need-same-length
 same-length c = search needs
@@ -114,7 +117,7 @@ returns : tie.Need-returns
 unfolding replyOfWrite
 returns c =
     let w = c .before .before .before in
-    write-refused (T w) (M w) (S w .args .tenant) (S w .args .id) (S w .args .value) _ (refused-here (c .before))
+    write-refused (T w) (M w) (S w .args .tenant) (S w .args .id) (S w .args .value) (S w .args .burns) _ (refused-here (c .before))
 
 same-length-2 : tie.Need-same-length-2
 same-length-2 c = search needs
@@ -123,12 +126,13 @@ returns-2 : tie.Need-returns-2
 unfolding replyOfWrite
 returns-2 c =
     let i = c .before .before in
-    let e = i .before .before .before .before in
+    let o = i .before .before in
+    let e = o .before .before .before in
     let a = e .before .before in
     let p = P (a .before) in
     let w = W p in
-    written (T w) (M w) (S w .args .tenant) (S w .args .id) (S w .args .value) (accepted-here p) (server p) (a .entry-at .result) _ _ (server-is p) (a .entry-at .ensures)
-    (rw (e .enter .ensures) at (i .invalidate .ensures .0)) (rw (e .enter .ensures) at (i .invalidate .ensures .1))
+    written (T w) (M w) (S w .args .tenant) (S w .args .id) (S w .args .value) (S w .args .burns) (accepted-here p) (server p) (a .entry-at .result) _ (o .left-over .result) _ (server-is p) (a .entry-at .ensures)
+    (o .left-over .ensures) (rw (e .enter .ensures) at (i .invalidate .ensures .0)) (rw (e .enter .ensures) at (i .invalidate .ensures .1))
 
 pub write-in-spec : {M : Type 1} → statement M
 write-in-spec =
@@ -144,6 +148,7 @@ write-in-spec =
     cast-entry-at
     entry-at-requires
     enter-requires
+    left-over-requires
     invalidate-requires
     same-length
     returns
