@@ -43,6 +43,8 @@ use Rattle.deletion.proofs.Done.{deleted-some}
 use Rattle.planning.specs.WriteRows.{target, entryRows, writeRows}
 use Rattle.writing.specs.Writing.{writeMarks, writeBurns, writeReply, writeTable, writeMedium}
 use Rattle.planning.proofs.Passed.{target-is, write-accepted}
+use Rattle.recovery.specs.Recovery.{usedOn, withUsed, recoverRows, recoverTable}
+use Rattle.recovery.proofs.Recovering.{usedOn-le, withUsed-arrays, withUsed-at, withUsed-sound, recover-accepted}
 use Rattle.server_rows.specs.ServerRows.{addServerRows, reweightRows}
 use Rattle.server_rows.proofs.Accepted.{addServer-accepted, reweight-accepted}
 use Rattle.servers.specs.Servers.{addServerReply, addServerTable, reweightReply, reweightTable}
@@ -117,11 +119,11 @@ module _ (t u : Table) (g : AgreeBelow t u) (h : sound t ≡ sound u) where
   unfolding writeMarks
   write-marks m id = same-marks m id (target t id) ∙ ap (marksFrom u m id) (same-target id)
 
-  delete-marks : (m : List ℕ) (id : ℕ) → deleteMarks t m id ≡ deleteMarks u m id
+  pub delete-marks : (m : List ℕ) (id : ℕ) → deleteMarks t m id ≡ deleteMarks u m id
   unfolding deleteMarks
   delete-marks m id = same-marks m id 0
 
-  write-burns : (m : List ℕ) (id value : ℕ) → 0 < t .count → writeBurns t m id value ≡ writeBurns u m id value
+  pub write-burns : (m : List ℕ) (id value : ℕ) → 0 < t .count → writeBurns t m id value ≡ writeBurns u m id value
   unfolding writeBurns
   write-burns m id value l = ap₂ (λ (a : ℕ) (marks : List ℕ).
       record { address = a + 1; word = valueWord value }
@@ -139,10 +141,14 @@ module _ (t u : Table) (g : AgreeBelow t u) (h : sound t ≡ sound u) where
       first-same 6 _ _ _ _ (ap₂ eqb (same-used id some) (g .capacity)) (λ _.
       first-same 7 _ _ _ _ (rw (same-entry id some)) (λ _. refl)))
 
-  delete-rows : (m : List ℕ) (tenant id : ℕ) → firstOf (deleteRows t m tenant id) ≡ firstOf (deleteRows u m tenant id)
+  pub delete-rows : (m : List ℕ) (tenant id : ℕ) → firstOf (deleteRows t m tenant id) ≡ firstOf (deleteRows u m tenant id)
   unfolding deleteRows
   delete-rows m tenant id = more-same _ _ _ _ (asked-numbered t m tenant id _) (asked-numbered u m tenant id _) (asked-rows m tenant id _) (λ _.
       first-same 8 _ _ _ _ (ap not (deleted-some t m id ∙ ap (λ (l : List ℕ). not (eqb (length l) 0)) (delete-marks m id) ∙ sym (deleted-some u m id))) (λ _. refl))
+
+  pub recover-rows : (m : List ℕ) → firstOf (recoverRows t m) ≡ firstOf (recoverRows u m)
+  unfolding recoverRows
+  recover-rows m = first-same 1 _ _ _ _ same-sound (λ _. first-same 5 _ _ _ _ (same-short m) (λ _. refl))
 
   -- replies and media
 
@@ -287,3 +293,31 @@ module _ (t u : Table) (a : Alike t u) where
             }) a,
         same .1,
       )
+
+  pub recover-below : (m : List ℕ) → Alike (recoverTable t m) (recoverTable u m)
+  unfolding recoverTable withUsed
+  recover-below m =
+      let g = a .agree in
+      settle-both (recoverRows t m) (recoverRows u m) (recover-rows t u g (a .isSound) m) Alike _ _ t u (λ z.
+      let s = recover-accepted t m z .isSound in
+      let s′ = sym (a .isSound) ∙ s in
+      let f = usedOn (t .capacity) m in
+      let f′ = usedOn (u .capacity) m in
+      record {
+        agree = record {
+          capacity = g .capacity;
+          salt = g .salt;
+          count = g .count;
+          weight = g .weight;
+          used = λ k l.
+              withUsed-at t f (a .one) (few t s) k l
+              ∙ ap (λ (c : ℕ). usedOn c m k) (g .capacity)
+              ∙ sym (withUsed-at u f′ (a .other) (few u s′) k (omega (arith, g .count)));
+          read = g .read;
+        };
+        isSound =
+            withUsed-sound t f (a .one) s (λ k l. usedOn-le (t .capacity) m k)
+            ∙ sym (withUsed-sound u f′ (a .other) s′ (λ k l. usedOn-le (u .capacity) m k));
+        one = withUsed-arrays t f (a .one);
+        other = withUsed-arrays u f′ (a .other);
+      }) a

@@ -23,11 +23,12 @@ use Rattle.lookup.proofs.Counting.{opened-none}
 use Rattle.deletion.specs.Deletion.{deleteReply, deleteMedium}
 use Rattle.planning.specs.WriteRows.{target, writeRows}
 use Rattle.writing.specs.Writing.{writeReply, writeTable, writeMedium}
+use Rattle.recovery.specs.Recovery.{withUsed, recoverRows, recoverTable}
 use Rattle.server_rows.specs.ServerRows.{addServerRows, reweightRows}
 use Rattle.servers.specs.Servers.{addServerReply, addServerTable, reweightReply, reweightTable}
 use Rattle.batch.specs.Batch.{batchReply, batchTable, singly, CountsSingly}
 use Rattle.batch.proofs.Counting.{opened-singly}
-use Rattle.archive.proofs.BelowCount.{addServer-rows, reweight-rows, write-rows, addServer-same, reweight-same, write-same, delete-below, lookup-below, batch-below}
+use Rattle.archive.proofs.BelowCount.{addServer-rows, reweight-rows, write-rows, recover-rows, addServer-same, reweight-same, write-same, delete-below, lookup-below, batch-below}
 
 -- the calls that leave the counters as they are
 module _ (t : Table) (m : List ℕ) where
@@ -43,15 +44,19 @@ module _ (t : Table) (m : List ℕ) where
   unfolding writeTable withEntry
   write-counters tenant id value = settle-either (writeRows t m tenant id value) _ t (λ (u : Table). u .counters ≡ t .counters) (λ _. refl) refl
 
+  pub recover-counters : recoverTable t m .counters ≡ t .counters
+  unfolding recoverTable withUsed
+  recover-counters = settle-either (recoverRows t m) _ t (λ (u : Table). u .counters ≡ t .counters) (λ _. refl) refl
+
 -- a table, and the same with other counters that are within their bounds exactly when its own are
 module _ (t : Table) (counters : List ℕ) (b : inBounds counters ≡ inBounds (t .counters)) where
   abbrev u : Table
   u = withCounters t counters
 
-  agree : AgreeBelow u t
+  pub agree : AgreeBelow u t
   agree = record { capacity = refl; salt = refl; count = refl; weight = λ k l. refl; used = λ k l. refl; read = λ k l. refl }
 
-  alike : sound u ≡ sound t
+  pub alike : sound u ≡ sound t
   alike = counters-sound t counters b
 
   module _ (m : List ℕ) where
@@ -66,6 +71,10 @@ module _ (t : Table) (counters : List ℕ) (b : inBounds counters ≡ inBounds (
     pub write-apart : (tenant id value : ℕ) → writeTable u m tenant id value ≡ withCounters (writeTable t m tenant id value) counters
     unfolding writeTable withEntry target
     write-apart tenant id value = settle-both _ _ (write-rows u t agree alike m tenant id value) (λ (x y : Table). x ≡ withCounters y counters) _ _ u t (λ _. refl) refl
+
+    pub recover-apart : recoverTable u m ≡ withCounters (recoverTable t m) counters
+    unfolding recoverTable withUsed
+    recover-apart = settle-both _ _ (recover-rows u t agree alike m) (λ (x y : Table). x ≡ withCounters y counters) _ _ u t (λ _. refl) refl
 
     pub lookup-unread : (tenant id : ℕ) → lookupReply u m tenant id ≡ lookupReply t m tenant id
     lookup-unread tenant id = lookup-below u t agree alike m tenant id

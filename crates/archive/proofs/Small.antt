@@ -1,23 +1,18 @@
 -- The server, the opened count and the invalidated count of every reply are 32-bit numbers, whatever the table and the
 -- medium hold: a refused call has zeros there, and an accepted call has a sound table.
 -- Assumes nothing.
-use Prim.Native.Nat.{ℕ, zero, suc, _*_, _≤_, _<_}
+use Prim.Native.Nat.{ℕ, _<_}
 use mathlib.Core.Path.{_≡_}
-use mathlib.Core.Bool.{Bool, true, cond}
-use mathlib.Core.List.{List, []}
+use mathlib.Core.List.{List}
 use mathlib.Core.Option.{Option, none, some}
 use native.Mathlib.Omega.{arith}
-use lib.ListN.{length, length-append}
 use lib.Dec.{eqb}
 use Rattle.lists.specs.Below.{nth}
 use Rattle.lists.proofs.Tests.{byBool}
 use Rattle.lists.proofs.Below.{countBelow-le}
 use Rattle.words.specs.Word.{tagOf}
 use Rattle.medium.specs.Entry.{valueAt}
-use Rattle.medium.specs.Burn.{marksOn, marksOver}
 use Rattle.table.specs.declared.Table.{Table}
-use Rattle.table.specs.Parts.{usedOf}
-use Rattle.table.specs.Sound.{sound}
 use Rattle.table.proofs.Soundness.{sound-facts}
 use Rattle.replies.specs.Refusal.{Row, firstOf}
 use Rattle.replies.specs.declared.Reply.{Reply}
@@ -29,7 +24,7 @@ use Rattle.lookup.specs.Lookup.{lookupRows, metReply, lookupReply}
 use Rattle.search.specs.Opened.{opens}
 use Rattle.lookup.proofs.Passed.{lookup-accepted}
 use Rattle.search.proofs.Searches.{opened-are}
-use Rattle.invalidation.proofs.Invalidating.{length-marksOn}
+use Rattle.invalidation.proofs.Invalidating.{marks-most}
 use Rattle.deletion.specs.Deletion.{deleteRows, deleteMarks, deleteReply}
 use Rattle.deletion.proofs.Done.{delete-ready}
 use Rattle.planning.specs.WriteRows.{target, writeRows}
@@ -52,22 +47,7 @@ reply-small rows done f = settle-either rows done _ Small f (record { server = o
 on-small : (k n : ℕ) → k < 4294967296 → n < 4294967296 → Small (onServer k n)
 on-small k n l h = record { server = l; opened = omega arith; invalidated = h }
 
--- a server has at most its entries to invalidate
-marks-few : (t : Table) (m : List ℕ) (id : ℕ) (p : ℕ → Bool) → sound t ≡ true → (n : ℕ) → n ≤ t .count → length (marksOver (t .capacity) (usedOf t) m id p n) ≤ 65536 * n
-unfolding marksOver
-marks-few t m id p s zero l = omega arith
-marks-few t m id p s (suc n) l =
-    let f = sound-facts t s in
-    let on : length (cond (p n) (marksOn (t .capacity) (usedOf t n) m id n) []) ≤ 65536 = byBool (p n)
-    (λ e. rw e (omega (arith, length-marksOn (t .capacity) (usedOf t n) m id n, f .server n l .fits)))
-    (λ e. rw e (omega arith))
-    in
-    rw length-append (omega (arith, marks-few t m id p s n (omega arith)))
-
 module _ (t : Table) where
-  marks-small : (m : List ℕ) (id : ℕ) (p : ℕ → Bool) → sound t ≡ true → length (marksOver (t .capacity) (usedOf t) m id p (t .count)) < 4294967296
-  marks-small m id p s = let f = sound-facts t s in omega (arith, marks-few t m id p s (t .count) (omega arith))
-
   pub addServer-small : (m : List ℕ) (weight : ℕ) → Small (addServerReply t m weight)
   unfolding addServerReply
   addServer-small m weight = reply-small (addServerRows t m weight) _ (λ z. on-small (t .count) 0 (omega (arith, addServer-accepted t m weight z .few)) (omega arith))
@@ -83,11 +63,11 @@ module _ (t : Table) where
   unfolding writeReply writeMarks
   write-small m tenant id value = reply-small (writeRows t m tenant id value) _ (λ z.
       let a = write-accepted t m tenant id value z in
-      on-small (target t id) _ (omega arith) (marks-small m id _ (a .isSound)))
+      on-small (target t id) _ (omega arith) (omega (arith, marks-most t m id (target t id) (a .inside))))
 
   pub delete-small : (m : List ℕ) (tenant id : ℕ) → Small (deleteReply t m tenant id)
   unfolding deleteReply deleteMarks
-  delete-small m tenant id = reply-small (deleteRows t m tenant id) _ (λ z. on-small 0 _ (omega arith) (marks-small m id _ (asked-ready t m tenant id _ (delete-ready t m tenant id z) .isSound)))
+  delete-small m tenant id = reply-small (deleteRows t m tenant id) _ (λ z. on-small 0 _ (omega arith) (omega (arith, marks-most t m id 0 (asked-ready t m tenant id _ (delete-ready t m tenant id z) .inside))))
 
   met-small : (m : List ℕ) (n : ℕ) → n < 4294967296 → (o : Option Place) → Small (metReply (t .capacity) m n o)
   unfolding metReply
