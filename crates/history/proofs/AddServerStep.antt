@@ -54,6 +54,9 @@ module _ {capacity count : ℕ} {rule : ℕ → ℕ → Bool} {events : List Eve
         (λ d. rw (eqb-true k count d) (new-blank j q i b))
         (λ d. H .free k j q (omega (arith, eqb-false k count d)) u i b);
     fits = H .fits;
+    filled = λ k j l u. byBool (eqb k count)
+        (λ d. absurd (omega (arith, H .noneAbove k (omega (arith, eqb-true k count d)))))
+        (λ d. H .filled k j (omega (arith, eqb-false k count d)) u);
     noneAbove = λ k l. H .noneAbove k (omega arith);
     written = H .written;
     opens = λ id k j n l i b. byBool (eqb k count)

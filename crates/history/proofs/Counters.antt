@@ -1,4 +1,4 @@
--- The counters over every list of calls, from any table and medium; what a refused call changes; and that no call answers by a
+-- The counters over every list of turns, from any table and medium; what a refused call changes; and that no call answers by a
 -- counter.
 -- Assumes nothing.
 use Prim.Native.Nat.{ℕ, _<_}
@@ -36,10 +36,12 @@ use Rattle.batch_answer.specs.declared.Batch.{Batch}
 use Rattle.batch_answer.specs.Answer.{batchBy, settledBatch}
 use Rattle.batch.specs.Batch.{batchRows, batchReply, batchTable}
 use Rattle.batch.proofs.Counting.{batch-left}
-use Rattle.archive.proofs.Counters.{addServer-counters, reweight-counters, write-counters, addServer-apart, reweight-apart, write-apart, addServer-unread, reweight-unread, write-unread, delete-unread, lookup-unread, batch-unread}
-use Rattle.history.specs.Call.{Call, addServer, reweight, write, delete, lookup, batch}
-use Rattle.history.specs.Machine.{State, inBrief, reply, next, after, replies, startState}
-use Rattle.history.specs.Counters.{openedTo, openedBy, Counters, Refused, Apart, Answered, Unread}
+use Rattle.recovery.specs.Recovery.{recoverTable}
+use Rattle.archive.proofs.Counters.{agree, alike, recover-counters, recover-apart, addServer-counters, reweight-counters, write-counters, addServer-apart, reweight-apart, write-apart, addServer-unread, reweight-unread, write-unread, delete-unread, lookup-unread, batch-unread}
+use Rattle.history.specs.Call.{Call, addServer, reweight, write, delete, lookup, batch, Turn, plain, crashedWrite, crashedDelete}
+use Rattle.history.specs.Machine.{State, inBrief, reply, next, crashWrite, crashDelete, recovered, turned, afterTurns, turnReplies, startState}
+use Rattle.history.specs.Counters.{openedTo, openedInTurn, openedBy, Counters, Refused, Apart, Answered, Unread}
+use Rattle.history.proofs.CrashAlike.{same-crash-write, same-crash-delete}
 
 -- one call: a tenant's counter grows by what it is answered
 module _ (tenant : ℕ) where
@@ -73,15 +75,29 @@ next-long S (delete caller id) = refl
 next-long S (lookup caller id) = counted-long (S .table .counters) caller _
 next-long S (batch caller ids) = counted-long (S .table .counters) caller _
 
+-- a turn: recover leaves the counters, and so does what crashed before it
+turn-counters : (S : State) (x : Turn) (tenant : ℕ) → tenant < length (S .table .counters)
+    → openedOf (turned S x .table) tenant ≡ grown (openedOf (S .table) tenant) (openedInTurn tenant S x)
+unfolding turned recovered crashWrite crashDelete openedInTurn
+turn-counters S (plain c) tenant l = next-counter tenant S c l
+turn-counters S (crashedWrite caller id value n beam) tenant l = left-as-lent tenant (S .table .counters) _ (recover-counters (S .table) _)
+turn-counters S (crashedDelete caller id n beam) tenant l = left-as-lent tenant (S .table .counters) _ (recover-counters (S .table) _)
+
+turn-long : (S : State) (x : Turn) → length (turned S x .table .counters) ≡ length (S .table .counters)
+unfolding turned recovered crashWrite crashDelete
+turn-long S (plain c) = next-long S c
+turn-long S (crashedWrite caller id value n beam) = ap length (recover-counters (S .table) _)
+turn-long S (crashedDelete caller id n beam) = ap length (recover-counters (S .table) _)
+
 -- every list, whatever the table and the medium hold: each step stops at the bound, and so does the sum
-pub after-counter : (tenant : ℕ) (calls : List Call) (S : State) → tenant < length (S .table .counters)
-    → openedOf (after S calls .table) tenant ≡ grown (openedOf (S .table) tenant) (openedBy tenant S calls)
-unfolding after openedBy
+pub after-counter : (tenant : ℕ) (turns : List Turn) (S : State) → tenant < length (S .table .counters)
+    → openedOf (afterTurns S turns .table) tenant ≡ grown (openedOf (S .table) tenant) (openedBy tenant S turns)
+unfolding afterTurns openedBy
 after-counter tenant [] S l = sym (grown-none (openedOf (S .table) tenant))
-after-counter tenant (c ∷ calls) S l =
-    after-counter tenant calls (next S c) (omega (arith, next-long S c))
-    ∙ ap (λ (n : ℕ). grown n (openedBy tenant (next S c) calls)) (next-counter tenant S c l)
-    ∙ grown-twice (openedOf (S .table) tenant) (openedTo tenant S c) (openedBy tenant (next S c) calls)
+after-counter tenant (x ∷ turns) S l =
+    after-counter tenant turns (turned S x) (omega (arith, turn-long S x))
+    ∙ ap (λ (n : ℕ). grown n (openedBy tenant (turned S x) turns)) (turn-counters S x tenant l)
+    ∙ grown-twice (openedOf (S .table) tenant) (openedInTurn tenant S x) (openedBy tenant (turned S x) turns)
 
 -- a started table has zeros
 start-zero : (capacity salt tenant : ℕ) → tenant < tenants → (length (startTable capacity salt .counters) ≡ tenants) × (openedOf (startTable capacity salt) tenant ≡ 0)
@@ -90,14 +106,14 @@ start-zero capacity salt tenant l = settle-either (startRows capacity salt) (emp
     (λ _. (refl, nth-zeros tenants tenant))
     (refl, nth-zeros tenants tenant)
 
-pub counters : (capacity salt : ℕ) (m : List ℕ) (calls : List Call) → Counters capacity salt m calls
-counters capacity salt m calls = record {
+pub counters : (capacity salt : ℕ) (m : List ℕ) (turns : List Turn) → Counters capacity salt m turns
+counters capacity salt m turns = record {
   counter = λ tenant l.
       let S = startState capacity salt m in
       let z = start-zero capacity salt tenant l in
-      after-counter tenant calls S (omega (arith, z .0))
-      ∙ ap (λ (n : ℕ). grown n (openedBy tenant S calls)) (z .1)
-      ∙ grown-fresh (openedBy tenant S calls);
+      after-counter tenant turns S (omega (arith, z .0))
+      ∙ ap (λ (n : ℕ). grown n (openedBy tenant S turns)) (z .1)
+      ∙ grown-fresh (openedBy tenant S turns);
 }
 
 -- a batch that is not refused as a whole
@@ -186,6 +202,19 @@ module _ (S : State) (counters : List ℕ) (b : inBounds counters ≡ inBounds (
       let e = batch-unread (S .table) counters b (S .medium) caller ids in
       record { said = ap inBrief e; left = rw e (opened-beside caller _) }
 
+  -- a crashed call on both: the same words, and the counters as they were
+  turned-beside : (x : Turn) → Beside (turned S x) (turned T x)
+  unfolding turned recovered crashWrite crashDelete
+  turned-beside (plain c) = call-alike c .left
+  turned-beside (crashedWrite caller id value n beam) =
+      let m = crashWrite S caller id value n beam .medium in
+      let same = same-crash-write (T .table) (S .table) (S .medium) (agree (S .table) counters b) (alike (S .table) counters b) n beam caller id value in
+      left-beside _ _ counters (ap (recoverTable (T .table)) same ∙ recover-apart (S .table) counters b m) same (b ∙ ap inBounds (sym (recover-counters (S .table) m)))
+  turned-beside (crashedDelete caller id n beam) =
+      let m = crashDelete S caller id n beam .medium in
+      let same = same-crash-delete (T .table) (S .table) (S .medium) (agree (S .table) counters b) (alike (S .table) counters b) n beam caller id in
+      left-beside _ _ counters (ap (recoverTable (T .table)) same ∙ recover-apart (S .table) counters b m) same (b ∙ ap inBounds (sym (recover-counters (S .table) m)))
+
 -- a state that differs in the counters alone is the other with its counters
 beside-is : (S T : State) → Beside S T → with-counters S (T .table .counters) ≡ T
 beside-is S T a = sym (ap₂ (λ (t : Table) (m : List ℕ). record { table = t; medium = m }) (a .apart .table) (a .apart .medium))
@@ -198,19 +227,24 @@ beside-batch S T a tenant ids =
     subst (λ (X : State). batchReply (X .table) (X .medium) tenant ids ≡ batchReply (S .table) (S .medium) tenant ids) (beside-is S T a)
     (batch-unread (S .table) (T .table .counters) (a .bounds) (S .medium) tenant ids)
 
-beside-unread : (calls : List Call) (S T : State) → Beside S T → Answered S T calls
-unfolding replies after
-beside-unread [] S T a = record { same = refl; batches = beside-batch S T a; apart = a .apart }
-beside-unread (c ∷ calls) S T a =
-    let one = beside-alike S T a c in
-    let more = beside-unread calls (next S c) (next T c) (one .left) in
-    record {
-      same = ap₂ (λ (r : Reply) (l : List Reply). r ∷ l) (one .said) (more .same);
-      batches = more .batches;
-      apart = more .apart;
-    }
+beside-turned : (S T : State) → Beside S T → (x : Turn) → Beside (turned S x) (turned T x)
+beside-turned S T a x = subst (λ (X : State). Beside (turned S x) (turned X x)) (beside-is S T a) (turned-beside S (T .table .counters) (a .bounds) x)
 
-pub counters-unread : (calls : List Call) (S T : State) → Unread S T calls
-counters-unread calls S T = record {
-  unread = λ a s t. beside-unread calls S T (record { apart = a; bounds = sound-facts (T .table) t .bounds ∙ sym (sound-facts (S .table) s .bounds) });
+-- of the replies to plain calls
+beside-replies : (S T : State) → Beside S T → (x : Turn) (turns : List Turn) → turnReplies (turned T x) turns ≡ turnReplies (turned S x) turns → turnReplies T (x ∷ turns) ≡ turnReplies S (x ∷ turns)
+unfolding turnReplies
+beside-replies S T a (plain c) turns e = ap₂ (λ (r : Reply) (l : List Reply). r ∷ l) (beside-alike S T a c .said) e
+beside-replies S T a (crashedWrite caller id value n beam) turns e = e
+beside-replies S T a (crashedDelete caller id n beam) turns e = e
+
+beside-unread : (turns : List Turn) (S T : State) → Beside S T → Answered S T turns
+unfolding turnReplies afterTurns
+beside-unread [] S T a = record { same = refl; batches = beside-batch S T a; apart = a .apart }
+beside-unread (x ∷ turns) S T a =
+    let more = beside-unread turns (turned S x) (turned T x) (beside-turned S T a x) in
+    record { same = beside-replies S T a x turns (more .same); batches = more .batches; apart = more .apart }
+
+pub counters-unread : (turns : List Turn) (S T : State) → Unread S T turns
+counters-unread turns S T = record {
+  unread = λ a s t. beside-unread turns S T (record { apart = a; bounds = sound-facts (T .table) t .bounds ∙ sym (sound-facts (S .table) s .bounds) });
 }

@@ -1,6 +1,6 @@
 -- Laws of the ledger's events alone: a server's used, each write's own entry, and an id's last write.
 -- Assumes nothing.
-use Prim.Native.Nat.{ℕ, suc, _≤_, _<_}
+use Prim.Native.Nat.{ℕ, suc, _+_, _≤_, _<_}
 use mathlib.Core.Path.{_≡_, refl, sym, ap, _∙_}
 use mathlib.Core.Logic.{_≢_}
 use mathlib.Core.Bool.{true, cond, not}
@@ -9,10 +9,10 @@ use mathlib.Core.List.{List, [], _∷_, _++_, tail-eq-of-cons-eq}
 use native.Mathlib.Omega.{arith}
 use lib.ListN.{length}
 use lib.Dec.{eqb}
-use borrow.Author.Tests.{not-true, eqb-true, eq-eqb, ne-eqb}
+use borrow.Author.Tests.{not-true, eqb-true, eqb-false, eq-eqb, ne-eqb}
 use Rattle.lists.proofs.Tests.{byBool, and-l, and-r}
 use Rattle.search.specs.Search.{Place}
-use Rattle.history.specs.Ledger.{Event, wrote, removed, Version, usedBy, lastWriteOf}
+use Rattle.history.specs.Ledger.{Event, wrote, removed, spent, Version, usedBy, lastWriteOf}
 use Rattle.history.specs.Demand3.{untouched, LastWrite}
 
 -- where a write has its entry, which is the server's used before it
@@ -24,6 +24,7 @@ unfoldable pub placeOf : List Event → ℕ → Option Place
 placeOf [] id = none
 placeOf (wrote a value server ∷ older) id = cond (eqb a id) (some (placeAfter older server)) (placeOf older id)
 placeOf (removed a ∷ older) id = cond (eqb a id) none (placeOf older id)
+placeOf (spent server ∷ older) id = placeOf older id
 
 -- what holds of each write among the events, with those newer and those older
 abbrev pub EachWrite : List Event → ((newer older : List Event) (id value server : ℕ) → Type 0) → Type 0
@@ -47,31 +48,56 @@ module _ (P : (newer older : List Event) (id value server : ℕ) → Type 0) whe
       let y : wrote a v k ≡ x = cc in
       rw (← y) (old newer older id value server (tail-eq-of-cons-eq e))
 
-  pub each-removed : {events : List Event} {a : ℕ} → EachWrite events (λ newer. P (removed a ∷ newer)) → EachWrite (removed a ∷ events) P
-  each-removed old [] older id value server e = let z : _≡_ {A = ℕ} 0 1 = cc in absurd (omega arith)
-  each-removed {events} {a} old (x ∷ newer) older id value server e =
-      let y : removed a ≡ x = cc in
+  -- an event that is no write
+  pub each-on : {events : List Event} {x : Event} → ((a v k : ℕ) → x ≡ wrote a v k → ⊥) → EachWrite events (λ newer. P (x ∷ newer)) → EachWrite (x ∷ events) P
+  each-on {events} {x} other old [] older id value server e = let y : x ≡ wrote id value server = cc in absurd (other id value server y)
+  each-on {events} {x} other old (z ∷ newer) older id value server e =
+      let y : x ≡ z = cc in
       rw (← y) (old newer older id value server (tail-eq-of-cons-eq e))
 
-module _ (id value server : ℕ) (older : List Event) where
-  pub used-self : usedBy (wrote id value server ∷ older) server ≡ suc (usedBy older server)
-  unfolding usedBy
-  used-self = rw (eq-eqb server server refl) (omega arith)
+pub removed-no-write : (id a v k : ℕ) → removed id ≡ wrote a v k → ⊥
+removed-no-write id a v k e = let z : _≡_ {A = ℕ} 0 1 = cc in omega arith
 
-  pub used-other : (k : ℕ) → k ≢ server → usedBy (wrote id value server ∷ older) k ≡ usedBy older k
-  unfolding usedBy
-  used-other k f = rw (ne-eqb server k (λ e. f (sym e))) (omega arith)
+pub spent-no-write : (server a v k : ℕ) → spent server ≡ wrote a v k → ⊥
+spent-no-write server a v k e = let z : _≡_ {A = ℕ} 0 1 = cc in omega arith
 
-  pub used-grows : (k : ℕ) → usedBy older k ≤ usedBy (wrote id value server ∷ older) k
-  unfolding usedBy
-  used-grows k = omega arith
+-- an event that takes an entry of a server: a write, and an entry spent
+pub record Takes (x : Event) (server : ℕ) : Type 0 where
+  pub more : (older : List Event) (k : ℕ) → usedBy (x ∷ older) k ≡ cond (eqb server k) 1 0 + usedBy older k
+
+pub wrote-takes : (id value server : ℕ) → Takes (wrote id value server) server
+unfolding usedBy
+wrote-takes id value server = record { more = λ older k. refl }
+
+pub spent-takes : (server : ℕ) → Takes (spent server) server
+unfolding usedBy
+spent-takes server = record { more = λ older k. refl }
+
+module _ {x : Event} {server : ℕ} (T : Takes x server) (older : List Event) where
+  pub used-self : usedBy (x ∷ older) server ≡ suc (usedBy older server)
+  used-self = T .more older server ∙ rw (eq-eqb server server refl) (omega arith)
+
+  pub used-other : (k : ℕ) → k ≢ server → usedBy (x ∷ older) k ≡ usedBy older k
+  used-other k f = T .more older k ∙ rw (ne-eqb server k (λ e. f (sym e))) (omega arith)
+
+  pub used-grows : (k : ℕ) → usedBy older k ≤ usedBy (x ∷ older) k
+  used-grows k = omega (arith, T .more older k)
+
+  -- an entry that is used now and was not before
+  pub used-new : (k j : ℕ) → usedBy older k ≤ j → j < usedBy (x ∷ older) k → (k ≡ server) × (j ≡ usedBy older server)
+  used-new k j a b = byBool (eqb k server)
+      (λ d.
+      let e = eqb-true k server d in
+      (e, omega (arith, used-self, ap (usedBy older) e, ap (usedBy (x ∷ older)) e)))
+      (λ d. absurd (omega (arith, used-other k (eqb-false k server d))))
 
 -- a write's entry is used from then on
 used-after : (newer older : List Event) (id value server : ℕ) → usedBy older server < usedBy (newer ++ (wrote id value server ∷ older)) server
 unfolding usedBy
-used-after [] older id value server = omega (arith, used-self id value server older)
+used-after [] older id value server = omega (arith, used-self (wrote-takes id value server) older)
 used-after (wrote a v k ∷ newer) older id value server = omega (arith, used-after newer older id value server)
 used-after (removed a ∷ newer) older id value server = used-after newer older id value server
+used-after (spent k ∷ newer) older id value server = omega (arith, used-after newer older id value server)
 
 pub used-write : (events : List Event) → EachWrite events (λ newer older id value server. usedBy older server < usedBy events server)
 used-write events newer older id value server e = rw e (used-after newer older id value server)
@@ -96,12 +122,14 @@ module _ (id value server : ℕ) (older : List Event) where
   newest-written [] c = rw (eq-eqb id id refl)
   newest-written (wrote a v k ∷ newer) c = rw (not-true (eqb a id) (and-l (not (eqb a id)) (untouched id newer) c)) (newest-written newer (and-r (not (eqb a id)) (untouched id newer) c))
   newest-written (removed a ∷ newer) c = rw (not-true (eqb a id) (and-l (not (eqb a id)) (untouched id newer) c)) (newest-written newer (and-r (not (eqb a id)) (untouched id newer) c))
+  newest-written (spent k ∷ newer) c = newest-written newer c
 
   newest-placed : (newer : List Event) → untouched id newer ≡ true → placeOf (newer ++ (wrote id value server ∷ older)) id ≡ some (placeAfter older server)
   unfolding placeOf untouched
   newest-placed [] c = rw (eq-eqb id id refl)
   newest-placed (wrote a v k ∷ newer) c = rw (not-true (eqb a id) (and-l (not (eqb a id)) (untouched id newer) c)) (newest-placed newer (and-r (not (eqb a id)) (untouched id newer) c))
   newest-placed (removed a ∷ newer) c = rw (not-true (eqb a id) (and-l (not (eqb a id)) (untouched id newer) c)) (newest-placed newer (and-r (not (eqb a id)) (untouched id newer) c))
+  newest-placed (spent k ∷ newer) c = newest-placed newer c
 
 module _ (events : List Event) (id value server : ℕ) (w : LastWrite events id value server) where
   pub last-written : lastWriteOf events id ≡ some (record { value = value; server = server })
@@ -128,6 +156,7 @@ last-came (wrote a v k ∷ older) id x e = byBool (eqb a id)
 last-came (removed a ∷ older) id x e = byBool (eqb a id)
     (λ d. let r : none ≡ some x = rw d at e in let z : _≡_ {A = ℕ} 0 1 = cc in absurd (omega arith))
     (λ d. last-on (removed a) older id (x .value) (x .server) (λ l. rw d) (last-came older id x (rw d at e)))
+last-came (spent k ∷ older) id x e = last-on (spent k) older id (x .value) (x .server) (λ l. refl) (last-came older id x e)
 
 pub came-placed : (events : List Event) (id : ℕ) (x : Version) (e : lastWriteOf events id ≡ some x)
     → placeOf events id ≡ some (placeAfter (last-came events id x e .older) (x .server))
@@ -141,6 +170,7 @@ none-placed (wrote a v k ∷ older) id e = byBool (eqb a id)
     (λ d. let r : some (record { value = v; server = k }) ≡ none = rw d at e in let z : _≡_ {A = ℕ} 0 1 = cc in absurd (omega arith))
     (λ d. rw d (none-placed older id (rw d at e)))
 none-placed (removed a ∷ older) id e = byBool (eqb a id) (λ d. rw d) (λ d. rw d (none-placed older id (rw d at e)))
+none-placed (spent k ∷ older) id e = none-placed older id e
 
 -- after a write
 pub wrote-self : (id value server : ℕ) (older : List Event) → placeOf (wrote id value server ∷ older) id ≡ some (placeAfter older server)
@@ -159,3 +189,8 @@ removed-self id older = rw (eq-eqb id id refl)
 pub removed-other : (id a : ℕ) (older : List Event) → a ≢ id → placeOf (removed id ∷ older) a ≡ placeOf older a
 unfolding placeOf
 removed-other id a older f = rw (ne-eqb id a (λ e. f (sym e)))
+
+-- after an entry spent
+pub spent-placed : (server a : ℕ) (older : List Event) → placeOf (spent server ∷ older) a ≡ placeOf older a
+unfolding placeOf
+spent-placed server a older = refl

@@ -37,9 +37,10 @@ use Rattle.writing.specs.Writing.{writeMarks, writeBurns, writeReply, writeTabl
 use Rattle.server_rows.specs.ServerRows.{startRows, addServerRows, reweightRows}
 use Rattle.servers.specs.Servers.{startTable, addServerReply, addServerTable, reweightReply, reweightTable}
 use Rattle.history.specs.Call.{Call, addServer, reweight, write, delete, lookup, compared}
-use Rattle.history.specs.Machine.{State, reply, next, after, replies, begin}
+use Rattle.history.specs.Machine.{State, reply, next, turned, afterTurns, turnReplies, after, replies, begin}
 use Rattle.history.specs.Example.{calls, expected, counters, Example}
-use Rattle.history.proofs.Theorem.{demand3}
+use Rattle.history.specs.Ledger.{freshLedger}
+use Rattle.history.proofs.Run.{begin-agrees, run-calls}
 
 -- a state by its two parts
 abbrev state : Table → List ℕ → State
@@ -72,14 +73,14 @@ module _ (rest : List ℕ) where
     table : after (state t (m ++ rest)) cs .table ≡ after (state t m) cs .table
 
   no-calls : {t : Table} {m : List ℕ} → Alike t m []
-  unfolding replies after
+  unfolding turnReplies turned afterTurns
   no-calls = record { said = refl; left = refl; table = refl }
 
   one-call : {t u : Table} {m w : List ℕ} {c : Call} {cs : List Call} → reply (state t (m ++ rest)) c ≡ reply (state t m) c
       → next (state t (m ++ rest)) c ≡ state (next (state t m) c .table) (next (state t m) c .medium ++ rest)
       → next (state t m) c ≡ state u w
       → Alike u w cs → Alike t m (c ∷ cs)
-  unfolding replies after
+  unfolding turnReplies turned afterTurns
   one-call {t} {u} {m} {w} {c} {cs} r n e s =
       let f : next (state t (m ++ rest)) c ≡ state u (w ++ rest) = n ∙ ap (λ (S : State). state (S .table) (S .medium ++ rest)) e in
       record {
@@ -190,7 +191,7 @@ record Over36 : Type 0 where
   longer : (rest : List ℕ) → Alike rest T0 M0 calls
 
 over-36 : Over36
-unfolding calls expected counters below allBelow highest orZero upward countBelow total setBelow stepOf nonzero seedOf xorLeft xorRight roundOf drawOf exceeds atLeast raise shareOf writeP takes pick writeServer readable serverAt entryAt bearsAt live blankRun burnAll marksOn marksOver invalidations inRange readSound serverSound sound inBounds grown counted withServer withWeight oneMore withEntry withOpened firstOf settle replyBy lastLive opening searchBelow searchFor startRows startTable addServerRows addServerReply addServerTable reweightRows reweightReply reweightTable short readyRows askedRows tenantOf outOfRange ofAnother target entryRows writeRows writeMarks writeBurns writeReply writeTable writeMedium isMet deleteRows deleteMarks deleteReply deleteMedium lookupRows metReply lookupReply lookupTable reply next after replies begin
+unfolding calls expected counters below allBelow highest orZero upward countBelow total setBelow stepOf nonzero seedOf xorLeft xorRight roundOf drawOf exceeds atLeast raise shareOf writeP takes pick writeServer readable serverAt entryAt bearsAt live blankRun burnAll marksOn marksOver invalidations inRange readSound serverSound sound inBounds grown counted withServer withWeight oneMore withEntry withOpened firstOf settle replyBy lastLive opening searchBelow searchFor startRows startTable addServerRows addServerReply addServerTable reweightRows reweightReply reweightTable short readyRows askedRows tenantOf outOfRange ofAnother target entryRows writeRows writeMarks writeBurns writeReply writeTable writeMedium isMet deleteRows deleteMarks deleteReply deleteMedium lookupRows metReply lookupReply lookupTable reply next turned afterTurns turnReplies begin
 over-36 = record {
   accepted = refl;
   said = refl;
@@ -227,7 +228,9 @@ example n h =
     ap (λ (S : State). after S calls .medium) e ∙ a .left ∙ ap (λ (m : List ℕ). m ++ replicate (n - 36) blank) (over-36 .left) in
     record {
       machine = machine;
-      ledger = sym (demand3 4 0 n (over-36 .accepted) calls .alike) ∙ ap (map compared) machine;
+      ledger =
+          sym (run-calls calls (begin 4 0 n) (freshLedger 4 0 n) (begin-agrees 4 0 n (over-36 .accepted)) .alike)
+          ∙ ap (map compared) machine;
       counted = ap (λ (S : State). after S calls .table .counters) e ∙ ap (λ (t : Table). t .counters) (a .table) ∙ over-36 .counted;
       word24 = ap (λ (m : List ℕ). nth m 24) left;
       word25 = ap (λ (m : List ℕ). nth m 25) left;

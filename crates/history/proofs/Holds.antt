@@ -3,7 +3,7 @@
 use Prim.Native.Nat.{ℕ, _+_, _≤_, _<_}
 use mathlib.Core.Path.{_≡_, sym, _∙_}
 use mathlib.Core.Logic.{_≢_}
-use mathlib.Core.Bool.{Bool, true}
+use mathlib.Core.Bool.{Bool, true, false}
 use mathlib.Core.List.{List}
 use native.Mathlib.Omega.{arith}
 use native.Mathlib.Nat.{add-zero}
@@ -12,10 +12,10 @@ use lib.Dec.{ltb, eqb}
 use borrow.Author.Tests.{ltb-true, ltb-false, eqb-true, eqb-false}
 use Rattle.limits.specs.Limits.{contentRange}
 use Rattle.lists.specs.Below.{nth}
-use Rattle.lists.proofs.Tests.{byBool}
+use Rattle.lists.proofs.Tests.{byBool, true-not-false}
 use Rattle.medium.specs.Word.{idWord, valueWord, blank}
-use Rattle.medium.specs.Entry.{serverAt, entryAt, valueAt, bears}
-use Rattle.medium.proofs.Entries.{bears-id}
+use Rattle.medium.specs.Entry.{entryWords, serverAt, entryAt, valueAt, bears, blankRun}
+use Rattle.medium.proofs.Entries.{bears-id, blank-at, blank-run}
 use Rattle.history.specs.Ledger.{Event, usedBy}
 use Rattle.history.proofs.Tops.{TopAt}
 use Rattle.history.proofs.Events.{placeOf, EachWrite, used-write}
@@ -34,6 +34,8 @@ pub record Holds (capacity count : ℕ) (rule : ℕ → ℕ → Bool) (events : 
   pub rest : (a : ℕ) → serverAt capacity count ≤ a → a < length m → nth m a ≡ blank
   pub free : (k j q : ℕ) → k < count → usedBy events k ≤ j → j < capacity → q < 3 → nth m (entryAt capacity k j + q) ≡ blank
   pub fits : (k : ℕ) → usedBy events k ≤ capacity
+  -- a used entry has a word that is not blank
+  pub filled : (k j : ℕ) → k < count → j < usedBy events k → blankRun m (entryAt capacity k j) entryWords ≡ false
   pub noneAbove : (k : ℕ) → count ≤ k → usedBy events k ≡ 0
   -- each write has its words in its entry
   pub written : EachWrite events (λ newer older id value server. InEntry capacity m id value server (usedBy older server))
@@ -75,3 +77,9 @@ module _ (m N : List ℕ) (once : Once m N) where
     idSmall = w .idSmall;
     valueSmall = w .valueSmall;
   }
+
+  -- and an entry that is filled stays so
+  pub once-filled : (from n : ℕ) → blankRun m from n ≡ false → blankRun N from n ≡ false
+  once-filled from n f = byBool (blankRun N from n)
+      (λ d. absurd (true-not-false (blank-run m from n (λ i l. once-blank (from + i) (blank-at N from n d i l))) f))
+      (λ d. d)

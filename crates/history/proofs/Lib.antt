@@ -1,3 +1,4 @@
+mod Strikes
 mod Tops
 pub mod Events
 pub mod Entering
@@ -5,12 +6,14 @@ pub mod Holds
 mod MarkedMedium
 mod DeletedMedium
 mod WrittenMedium
+mod WriteBurns
 pub mod Agree
 mod LookupStep
 mod ReweightStep
 mod AddServerStep
 mod DeleteStep
 mod WriteStep
+mod CrashSteps
 pub mod Batches
 pub mod Run
 mod Never
@@ -20,4 +23,5 @@ pub mod Theorem
 pub mod LiveRule
 pub mod Numbers
 pub mod Example
+pub mod CrashAlike
 pub mod Counters

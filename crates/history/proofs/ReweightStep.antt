@@ -81,6 +81,7 @@ module _ {t : Table} {m : List ℕ} {L : Ledger} (A : Agree t m L) (server weigh
           rest = H .rest;
           free = H .free;
           fits = H .fits;
+          filled = H .filled;
           noneAbove = H .noneAbove;
           written = H .written;
           opens = λ id k j n l i b. still-readable id k l (H .opens id k j n l i b);

@@ -30,8 +30,9 @@ use Rattle.writing.specs.Writing.{writeMarks, writeBurns, writeReply, writeTabl
 use Rattle.planning.proofs.Passed.{target-is, write-accepted}
 use Rattle.history.specs.Call.{write, compared}
 use Rattle.history.specs.Ledger.{wrote, Ledger, told, usedBy, withEvent, writeRowsL, rowsOf, doneOf, enter, readsL}
-use Rattle.history.proofs.Events.{used-self, used-other}
-use Rattle.history.proofs.WrittenMedium.{withWords, afterWrite, Accepted, write-holds}
+use Rattle.history.proofs.Events.{wrote-takes, used-self, used-other}
+use Rattle.history.proofs.WrittenMedium.{Accepted}
+use Rattle.history.proofs.WriteBurns.{valueBurn, idBurn, burnsTo, write-holds}
 use Rattle.history.proofs.Agree.{Agree, Step, settled, same-asked, ledger-numbered, same-target, same-reads, same-marks}
 
 module _ {t : Table} {m : List ℕ} {L : Ledger} (A : Agree t m L) (tenant id value : ℕ) where
@@ -45,7 +46,7 @@ module _ {t : Table} {m : List ℕ} {L : Ledger} (A : Agree t m L) (tenant id va
   not-full : server < t .count → (usedOf t server ≡ t .capacity → ⊥) → usedBy (L .events) server < t .capacity
   not-full l n = omega (arith, n, A .used server l, A .holds .fits server)
 
-  blank-entry : server < t .count → usedBy (L .events) server < t .capacity → blankRun m (entryAt (t .capacity) server (usedOf t server)) 3 ≡ true
+  pub blank-entry : server < t .count → usedBy (L .events) server < t .capacity → blankRun m (entryAt (t .capacity) server (usedOf t server)) 3 ≡ true
   blank-entry l i =
       let u = A .used server l in
       blank-run m (entryAt (t .capacity) server (usedOf t server)) 3 (λ q b. A .holds .free server (usedOf t server) q l (omega arith) (omega arith) b)
@@ -79,11 +80,11 @@ module _ {t : Table} {m : List ℕ} {L : Ledger} (A : Agree t m L) (tenant id va
         reads = target-read (a .there);
       }
 
-  -- the medium that an accepted write leaves
-  pub write-medium : server < t .count → burnAll m (writeBurns t m id value) ≡ afterWrite (t .capacity) (t .count) (readsL L) (L .events) m id value server
-  unfolding writeBurns writeMarks burnAll
-  write-medium l = ap₂
-      (λ (j : ℕ) (marks : List ℕ). burnAll (withWords (t .capacity) m id value server j) (invalidations replaced marks))
+  -- the burns of an accepted write
+  pub write-burns : server < t .count → writeBurns t m id value ≡ burnsTo (t .capacity) (t .count) (readsL L) (L .events) m id value server
+  unfolding writeBurns writeMarks
+  write-burns l = ap₂
+      (λ (j : ℕ) (marks : List ℕ). valueBurn (t .capacity) value server j ∷ idBurn (t .capacity) id server j ∷ invalidations replaced marks)
       (A .used server l)
       (same-marks A id (λ k. leb server k && reads t id k) (λ k. leb server k && readsL L id k) (λ k i. ap (λ (b : Bool). leb server k && b) (same-reads A id k i)))
 
@@ -93,8 +94,8 @@ module _ {t : Table} {m : List ℕ} {L : Ledger} (A : Agree t m L) (tenant id va
 
     new-used : (k : ℕ) → k < t .count → usedOf (withEntry t server) k ≡ usedBy (wrote id value server ∷ L .events) k
     new-used k l = byBool (eqb k server)
-        (λ d. rw (eqb-true k server d) (added .usedNew ∙ ap suc (A .used server (W .there)) ∙ sym (used-self id value server (L .events))))
-        (λ d. added .usedOld k (eqb-false k server d) ∙ A .used k l ∙ sym (used-other id value server (L .events) k (eqb-false k server d)))
+        (λ d. rw (eqb-true k server d) (added .usedNew ∙ ap suc (A .used server (W .there)) ∙ sym (used-self (wrote-takes id value server) (L .events))))
+        (λ d. added .usedOld k (eqb-false k server d) ∙ A .used k l ∙ sym (used-other (wrote-takes id value server) (L .events) k (eqb-false k server d)))
 
     agrees : Agree (withEntry t server) (burnAll m (writeBurns t m id value)) (withEvent L (wrote id value server))
     unfolding withEntry withEvent
@@ -108,7 +109,7 @@ module _ {t : Table} {m : List ℕ} {L : Ledger} (A : Agree t m L) (tenant id va
       used = new-used;
       readPs = A .readPs;
       words = length-burnAll m (writeBurns t m id value) ∙ A .words;
-      holds = rw (write-medium (W .there)) (write-holds (A .holds) W);
+      holds = rw (write-burns (W .there)) (write-holds (A .holds) W);
     }
 
   pub write-step : Step (writeReply t m tenant id value) (writeTable t m tenant id value) (writeMedium t m tenant id value) (enter L (write tenant id value))

@@ -1,5 +1,5 @@
--- Shelves opened, club by club (document 02, item 5): what the counters are after every list of calls, what a refused call changes,
--- and that no call answers by a counter.
+-- Shelves opened, club by club (document 02, item 5): what the counters are after every list of turns, crashed calls among them, what
+-- a refused call changes, and that no call answers by a counter.
 use Prim.Native.Nat.{ℕ, _+_, _<_, min}
 use mathlib.Core.Bool.{true, cond}
 use mathlib.Core.Path.{_≡_}
@@ -12,8 +12,8 @@ use Rattle.table.specs.Sound.{sound}
 use Rattle.lookup.specs.Lookup.{lookupReply}
 use Rattle.batch_answer.specs.Answer.{openedIn}
 use Rattle.batch.specs.Batch.{batchReply}
-use Rattle.history.specs.Call.{Call, addServer, reweight, write, delete, lookup, batch}
-use Rattle.history.specs.Machine.{State, reply, next, after, replies, startState}
+use Rattle.history.specs.Call.{Call, addServer, reweight, write, delete, lookup, batch, Turn, plain, crashedWrite, crashedDelete}
+use Rattle.history.specs.Machine.{State, reply, next, turned, afterTurns, turnReplies, startState}
 
 -- the opened counts that a call answers to a tenant: those of its lookups, and those of the ids of its batches
 unfoldable pub openedTo : ℕ → State → Call → ℕ
@@ -24,15 +24,21 @@ openedTo tenant S (delete caller id) = 0
 openedTo tenant S (lookup caller id) = cond (eqb caller tenant) (lookupReply (S .table) (S .medium) caller id .opened) 0
 openedTo tenant S (batch caller ids) = cond (eqb caller tenant) (openedIn (batchReply (S .table) (S .medium) caller ids)) 0
 
--- and their sum over a list of calls, run from a state
-unfoldable pub openedBy : ℕ → State → List Call → ℕ
-openedBy tenant S [] = 0
-openedBy tenant S (c ∷ calls) = openedTo tenant S c + openedBy tenant (next S c) calls
+-- a crashed call opens none
+unfoldable pub openedInTurn : ℕ → State → Turn → ℕ
+openedInTurn tenant S (plain c) = openedTo tenant S c
+openedInTurn tenant S (crashedWrite caller id value n beam) = 0
+openedInTurn tenant S (crashedDelete caller id n beam) = 0
 
--- after a list of calls on a fresh table, over a medium of any words, a tenant's counter is the smaller of its bound and that sum
-pub record Counters (capacity salt : ℕ) (m : List ℕ) (calls : List Call) : Type 0 where
+-- and their sum over a list of turns, run from a state
+unfoldable pub openedBy : ℕ → State → List Turn → ℕ
+openedBy tenant S [] = 0
+openedBy tenant S (x ∷ turns) = openedInTurn tenant S x + openedBy tenant (turned S x) turns
+
+-- after a list of turns on a fresh table, over a medium of any words, a tenant's counter is the smaller of its bound and that sum
+pub record Counters (capacity salt : ℕ) (m : List ℕ) (turns : List Turn) : Type 0 where
   pub counter : (tenant : ℕ) → tenant < tenants
-      → openedOf (after (startState capacity salt m) calls .table) tenant ≡ min maxCounter (openedBy tenant (startState capacity salt m) calls)
+      → openedOf (afterTurns (startState capacity salt m) turns .table) tenant ≡ min maxCounter (openedBy tenant (startState capacity salt m) turns)
 
 -- a refused call leaves medium and table as lent, but for the counters where it is a lookup that opened servers
 pub record Refused (S : State) (c : Call) : Type 0 where
@@ -45,13 +51,14 @@ pub record Apart (S T : State) : Type 0 where
   pub table : T .table ≡ withCounters (S .table) (T .table .counters)
   pub medium : T .medium ≡ S .medium
 
--- a list of calls gets the same replies from both, a batch after it the same answer, and they differ in the counters alone again
-pub record Answered (S T : State) (calls : List Call) : Type 0 where
-  pub same : replies T calls ≡ replies S calls
+-- a list of turns gets the same replies from both, a batch after it the same answer, and they differ in the counters alone again
+pub record Answered (S T : State) (turns : List Turn) : Type 0 where
+  pub same : turnReplies T turns ≡ turnReplies S turns
   pub batches : (tenant : ℕ) (ids : List ℕ)
-      → batchReply (after T calls .table) (after T calls .medium) tenant ids ≡ batchReply (after S calls .table) (after S calls .medium) tenant ids
-  pub apart : Apart (after S calls) (after T calls)
+      → batchReply (afterTurns T turns .table) (afterTurns T turns .medium) tenant ids
+      ≡ batchReply (afterTurns S turns .table) (afterTurns S turns .medium) tenant ids
+  pub apart : Apart (afterTurns S turns) (afterTurns T turns)
 
 -- it is so where both tables are sound
-pub record Unread (S T : State) (calls : List Call) : Type 0 where
-  pub unread : Apart S T → sound (S .table) ≡ true → sound (T .table) ≡ true → Answered S T calls
+pub record Unread (S T : State) (turns : List Turn) : Type 0 where
+  pub unread : Apart S T → sound (S .table) ≡ true → sound (T .table) ≡ true → Answered S T turns

@@ -1,9 +1,9 @@
--- The plain ledger (document 01, "The plain ledger"; document 02, items 2 and 4). It is fed the capacity, the salt, the medium's
--- length and the calls' arguments, and nothing from table or medium; of the archive it shares the published rule, which of two
+-- The plain ledger (document 01, "The plain ledger"; document 02, items 2, 4 and 7). It is fed the capacity, the salt, the medium's
+-- length and the calls' arguments, and nothing from table or medium but, for crashed calls only, what `Heard` has; of the archive it shares the published rule, which of two
 -- fractions is kept (`raise`), whose an id is, and how rows of refusals and the parts of a batch are put together.
 use Prim.Native.Nat.{ℕ, suc, _+_, _-_, _*_}
 use mathlib.Core.Bool.{Bool, true, false, cond, not, _&&_, _||_}
-use mathlib.Core.List.{List, [], _∷_, _++_}
+use mathlib.Core.List.{List, [], _∷_, _++_, map}
 use mathlib.Core.Option.{Option, none, some}
 use lib.ListN.{length}
 use lib.Dec.{leb, ltb, eqb}
@@ -16,12 +16,13 @@ use Rattle.placement.specs.Rule.{writeP, writeServer, readable}
 use Rattle.replies.specs.Refusal.{Row, _when_, firstOf, settle}
 use Rattle.batch_answer.specs.declared.Batch.{Batch}
 use Rattle.batch_answer.specs.Answer.{batchBy, tooLong, settledBatch}
-use Rattle.history.specs.Call.{Call, addServer, reweight, write, delete, lookup, batch, Compared}
+use Rattle.history.specs.Call.{Call, addServer, reweight, write, delete, lookup, batch, Heard, heard, heardWrite, heardDelete, Compared}
 
--- an accepted write (id, value, server) or an accepted delete
+-- an accepted write (id, value, server), an accepted delete, or an entry of a server that a crashed write spent in vain
 pub data Event : Type 0 where
   wrote : ℕ → ℕ → ℕ → Event
   removed : ℕ → Event
+  spent : ℕ → Event
 
 -- the capacity, the salt, the medium's length, the number of servers, their weights, for each the greatest WriteP so far, and the
 -- events, the newest first
@@ -53,11 +54,12 @@ entriesL L = L .capacity
 abbrev pub wordsFor : Ledger → ℕ → ℕ
 wordsFor L n = 3 * L .capacity * n
 
--- a server's used: the number of writes to it
+-- a server's used: the number of writes to it, and of entries spent on it
 unfoldable pub usedBy : List Event → ℕ → ℕ
 usedBy [] k = 0
 usedBy (wrote id value server ∷ older) k = cond (eqb server k) 1 0 + usedBy older k
 usedBy (removed id ∷ older) k = usedBy older k
+usedBy (spent server ∷ older) k = cond (eqb server k) 1 0 + usedBy older k
 
 -- what an id has by a write: the value, and the server that it went to
 pub record Version : Type 0 where
@@ -70,17 +72,12 @@ lastWriteOf [] id = none
 lastWriteOf (wrote a value server ∷ older) id =
     cond (eqb a id) (some (record { value = value; server = server })) (lastWriteOf older id)
 lastWriteOf (removed a ∷ older) id = cond (eqb a id) none (lastWriteOf older id)
+lastWriteOf (spent server ∷ older) id = lastWriteOf older id
 
 -- the id has such a write
 unfoldable pub isWritten : Option Version → Bool
 isWritten none = false
 isWritten (some x) = true
-
--- the number of all writes
-unfoldable pub writes : List Event → ℕ
-writes [] = 0
-writes (wrote id value server ∷ older) = suc (writes older)
-writes (removed id ∷ older) = writes older
 
 -- what a call makes of the ledger, and its reply
 pub record Entered : Type 0 where
@@ -254,10 +251,55 @@ doneOf L (batch tenant ids) = record { reply = told 0 0 0 0; ledger = L }
 unfoldable pub enter : Ledger → Call → Entered
 enter L c = enterBy L (rowsOf L c) (doneOf L c)
 
-unfoldable pub ledgerAfter : Ledger → List Call → Ledger
-ledgerAfter L [] = L
-ledgerAfter L (c ∷ cs) = ledgerAfter (enter L c .ledger) cs
+-- A crashed call: the ledger takes the outcome shown as having happened. A crashed write whose entry a lookup meets is a write; else
+-- an entry that is not wholly blank is spent. A crashed delete after which a lookup meets none is a delete
 
-unfoldable pub ledgerReplies : Ledger → List Call → List Compared
-ledgerReplies L [] = []
-ledgerReplies L (c ∷ cs) = enter L c .reply ∷ ledgerReplies (enter L c .ledger) cs
+unfoldable pub crashedWriteL : Ledger → ℕ → ℕ → ℕ → Bool → Bool → Ledger
+crashedWriteL L tenant id value isTouched met =
+    let k = targetL L id in
+    settle (writeRowsL L tenant id value) (cond met (withEvent L (wrote id value k)) (cond isTouched (withEvent L (spent k)) L)) L
+
+unfoldable pub crashedDeleteL : Ledger → ℕ → ℕ → Bool → Ledger
+crashedDeleteL L tenant id gone = settle (deleteRowsL L tenant id) (cond gone (withEvent L (removed id)) L) L
+
+unfoldable pub noted : Ledger → Heard → Ledger
+noted L (heard c) = enter L c .ledger
+noted L (heardWrite tenant id value isTouched met) = crashedWriteL L tenant id value isTouched met
+noted L (heardDelete tenant id gone) = crashedDeleteL L tenant id gone
+
+unfoldable pub ledgerBy : Ledger → List Heard → Ledger
+ledgerBy L [] = L
+ledgerBy L (x ∷ xs) = ledgerBy (noted L x) xs
+
+-- its replies to the calls that did not crash
+unfoldable pub repliesBy : Ledger → List Heard → List Compared
+repliesBy L [] = []
+repliesBy L (heard c ∷ xs) = enter L c .reply ∷ repliesBy (noted L (heard c)) xs
+repliesBy L (heardWrite tenant id value isTouched met ∷ xs) = repliesBy (noted L (heardWrite tenant id value isTouched met)) xs
+repliesBy L (heardDelete tenant id gone ∷ xs) = repliesBy (noted L (heardDelete tenant id gone)) xs
+
+-- the same of a list of calls
+abbrev pub ledgerAfter : Ledger → List Call → Ledger
+ledgerAfter L calls = ledgerBy L (map heard calls)
+
+abbrev pub ledgerReplies : Ledger → List Call → List Compared
+ledgerReplies L calls = repliesBy L (map heard calls)
+
+-- the accepted writes and the crashed ones together: of both, those that no row refuses
+
+unfoldable pub takesEntry : Ledger → Call → ℕ
+takesEntry L (write tenant id value) = settle (writeRowsL L tenant id value) 1 0
+takesEntry L (addServer weight) = 0
+takesEntry L (reweight server weight) = 0
+takesEntry L (delete tenant id) = 0
+takesEntry L (lookup tenant id) = 0
+takesEntry L (batch tenant ids) = 0
+
+unfoldable pub mayTakeEntry : Ledger → Heard → ℕ
+mayTakeEntry L (heard c) = takesEntry L c
+mayTakeEntry L (heardWrite tenant id value isTouched met) = takesEntry L (write tenant id value)
+mayTakeEntry L (heardDelete tenant id gone) = 0
+
+unfoldable pub writesBy : Ledger → List Heard → ℕ
+writesBy L [] = 0
+writesBy L (x ∷ xs) = mayTakeEntry L x + writesBy (noted L x) xs

@@ -1,5 +1,7 @@
+pub mod Beam
 pub mod Call
 pub mod Machine
+pub mod Hearing
 pub mod Ledger
 pub mod Demand3
 pub mod LiveRule
