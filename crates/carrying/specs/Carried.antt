@@ -5,8 +5,8 @@ use mathlib.Core.Path.{_≡_}
 use mathlib.Core.List.{List}
 use Rattle.table.specs.declared.Table.{Table}
 use Rattle.batch.specs.Batch.{batchReply}
-use Rattle.history.specs.Call.{Call}
-use Rattle.history.specs.Machine.{State, after, replies}
+use Rattle.history.specs.Call.{Turn}
+use Rattle.history.specs.Machine.{State, afterTurns, turnReplies}
 use Rattle.image.specs.Layout.{imageOf}
 use Rattle.image.specs.Decoding.{decodeTable}
 use Rattle.image.specs.Promises.{EqualBelow}
@@ -18,14 +18,14 @@ kept t m = record { table = t; medium = m }
 abbrev pub carried : Table → List ℕ → State
 carried t m = kept (decodeTable (imageOf t)) m
 
--- every list of calls gets the same replies on both, leaves the same medium, and leaves tables that are equal below the count and so
--- have the same image; a batch after the list gets the same answer
-pub record Carried (t : Table) (m : List ℕ) (calls : List Call) : Type 0 where
-  pub same : replies (carried t m) calls ≡ replies (kept t m) calls
+-- every list of turns, crashed calls among them, gets the same replies on both, leaves the same medium, and leaves tables that are
+-- equal below the count and so have the same image; a batch after the list gets the same answer
+pub record Carried (t : Table) (m : List ℕ) (turns : List Turn) : Type 0 where
+  pub same : turnReplies (carried t m) turns ≡ turnReplies (kept t m) turns
   pub batches : (tenant : ℕ) (ids : List ℕ)
-      → let S = after (kept t m) calls in
-      let C = after (carried t m) calls in
+      → let S = afterTurns (kept t m) turns in
+      let C = afterTurns (carried t m) turns in
       batchReply (C .table) (C .medium) tenant ids ≡ batchReply (S .table) (S .medium) tenant ids
-  pub medium : after (carried t m) calls .medium ≡ after (kept t m) calls .medium
-  pub equal : EqualBelow (after (carried t m) calls .table) (after (kept t m) calls .table)
-  pub image : imageOf (after (carried t m) calls .table) ≡ imageOf (after (kept t m) calls .table)
+  pub medium : afterTurns (carried t m) turns .medium ≡ afterTurns (kept t m) turns .medium
+  pub equal : EqualBelow (afterTurns (carried t m) turns .table) (afterTurns (kept t m) turns .table)
+  pub image : imageOf (afterTurns (carried t m) turns .table) ≡ imageOf (afterTurns (kept t m) turns .table)

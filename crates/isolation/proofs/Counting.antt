@@ -3,7 +3,7 @@
 use Prim.Native.Nat.{ℕ, _+_, _<_, min}
 use mathlib.Core.Path.{_≡_, refl, sym, ap, _∙_}
 use mathlib.Core.Bool.{cond}
-use mathlib.Core.List.{List, [], _∷_}
+use mathlib.Core.List.{List, [], _∷_, map}
 use native.Mathlib.Omega.{arith}
 use lib.Dec.{eqb}
 use Rattle.limits.specs.Limits.{tenants, maxCounter}
@@ -16,9 +16,9 @@ use Rattle.writing.specs.Writing.{writeReply}
 use Rattle.server_rows.specs.ServerRows.{addServerRows, reweightRows}
 use Rattle.servers.specs.Servers.{addServerReply, reweightReply}
 use Rattle.batch_answer.specs.Answer.{openedIn}
-use Rattle.history.specs.Call.{Call, addServer, reweight, write, delete, lookup, batch}
-use Rattle.history.specs.Machine.{State, reply, next, after, begin}
-use Rattle.history.specs.Counters.{openedTo, openedBy}
+use Rattle.history.specs.Call.{Call, addServer, reweight, write, delete, lookup, batch, plain}
+use Rattle.history.specs.Machine.{State, reply, next, turned, after, begin}
+use Rattle.history.specs.Counters.{openedTo, openedInTurn, openedBy}
 use Rattle.history.proofs.Counters.{counters}
 use Rattle.isolation.specs.Seen.{sees, shown, Heard, toCall, toBatch, hears, heard}
 
@@ -45,8 +45,8 @@ module _ (tenant : ℕ) where
   call-heard S (lookup caller id) = refl
   call-heard S (batch caller ids) = refl
 
-  all-heard : (calls : List Call) (S : State) → openedIn-all (heard tenant S calls) ≡ openedBy tenant S calls
-  unfolding openedIn-all heard openedBy
+  all-heard : (calls : List Call) (S : State) → openedIn-all (heard tenant S calls) ≡ openedBy tenant S (map plain calls)
+  unfolding openedIn-all heard openedBy openedInTurn turned
   all-heard [] S = refl
   all-heard (c ∷ calls) S = byBool (sees tenant c)
       (λ s.
@@ -63,4 +63,4 @@ module _ (tenant : ℕ) where
   unfolding begin
   counter-heard l capacity salt n n′ calls calls′ e =
       let same = sym (all-heard calls (begin capacity salt n)) ∙ ap openedIn-all e ∙ all-heard calls′ (begin capacity salt n′) in
-      counters capacity salt _ calls .counter tenant l ∙ ap (min maxCounter) same ∙ sym (counters capacity salt _ calls′ .counter tenant l)
+      counters capacity salt _ (map plain calls) .counter tenant l ∙ ap (min maxCounter) same ∙ sym (counters capacity salt _ (map plain calls′) .counter tenant l)

@@ -4,9 +4,9 @@ use Prim.Native.Nat.{ℕ, zero, suc}
 use mathlib.Core.Path.{_≡_, refl, sym, ap, _∙_}
 use mathlib.Core.Logic.{_≢_}
 use mathlib.Core.Bool.{Bool, false, cond, not, _&&_, _||_, and-true, and-false, and-assoc}
-use mathlib.Core.List.{List, [], _∷_, _++_, append-assoc}
+use mathlib.Core.List.{List, [], _∷_, _++_, append-nil, append-assoc}
 use native.Mathlib.Omega.{arith}
-use native.Mathlib.Nat.{add-zero, zero-add}
+use native.Mathlib.Nat.{add-zero, zero-add, add-comm}
 use lib.ListN.{length, length-append, length-map}
 use lib.Dec.{ltb, eqb}
 use borrow.Author.Tests.{eqb-true, eqb-false, le-ltb}
@@ -16,17 +16,18 @@ use Rattle.lists.proofs.Below.{countBelow-cong, length-upward}
 use Rattle.medium.specs.Entry.{markAt, bears, live}
 use Rattle.medium.specs.Burn.{marksOn, marksOver}
 use Rattle.medium.proofs.Entries.{bears-id, live-below}
-use Rattle.history.specs.Ledger.{Event, wrote, removed, usedBy}
+use Rattle.history.specs.Ledger.{Event, wrote, removed, spent, usedBy}
 use Rattle.history.specs.LiveRule.{staysLive}
-use Rattle.history.proofs.Events.{used-self}
+use Rattle.history.proofs.Events.{wrote-takes, used-self}
 use Rattle.history.proofs.Holds.{Holds}
-use Rattle.history.proofs.LiveRule.{Ruled}
+use Rattle.history.proofs.LiveRule.{not-spent, Ruled}
 
 -- an entry of the id is live on server k: since the id's last write there came no delete of it and no write of it to a lower server
 unfoldable pub liveOn : List Event → ℕ → ℕ → Bool
 liveOn [] id k = false
 liveOn (wrote a value server ∷ older) id k = cond (eqb a id) (eqb server k || (ltb k server && liveOn older id k)) (liveOn older id k)
 liveOn (removed a ∷ older) id k = not (eqb a id) && liveOn older id k
+liveOn (spent server ∷ older) id k = liveOn older id k
 
 stays-append : (id k : ℕ) (newer older : List Event) → staysLive id k (newer ++ older) ≡ staysLive id k newer && staysLive id k older
 unfolding staysLive
@@ -35,6 +36,7 @@ stays-append id k (wrote a v s ∷ newer) older =
     rw (stays-append id k newer older) (sym (and-assoc (not (eqb a id) || ltb k s) (staysLive id k newer) (staysLive id k older)))
 stays-append id k (removed a ∷ newer) older =
     rw (stays-append id k newer older) (sym (and-assoc (not (eqb a id)) (staysLive id k newer) (staysLive id k older)))
+stays-append id k (spent s ∷ newer) older = stays-append id k newer older
 
 module _ {capacity count : ℕ} {rule : ℕ → ℕ → Bool} {events : List Event} {m : List ℕ} (H : Holds capacity count rule events m) (R : Ruled capacity events m) (id : ℕ) where
   module _ (k : ℕ) where
@@ -62,10 +64,10 @@ module _ {capacity count : ℕ} {rule : ℕ → ℕ → Bool} {events : List Eve
         byBool (eqb s k)
         (λ d.
         let f : events ≡ newer ++ (wrote a v k ∷ older) = rw (eqb-true s k d) at e in
-        let u : usedBy (wrote a v s ∷ older) k ≡ suc (usedBy older k) = rw (eqb-true s k d) (used-self a v k older) in
+        let u : usedBy (wrote a v s ∷ older) k ≡ suc (usedBy older k) = rw (eqb-true s k d) (used-self (wrote-takes a v k) older) in
         ap (countBelow B) u ∙ byBool (eqb a id)
         (λ c.
-        let r : B (usedBy older k) ≡ staysLive id k newer = R newer older id v k (rw (eqb-true a id c) at f) in
+        let r : B (usedBy older k) ≡ staysLive id k newer = R .each newer older id v k (rw (eqb-true a id c) at f) in
         let z : countBelow B (usedBy older k) ≡ 0 = rw (c, eqb-true s k d, le-ltb k k (omega arith), and-false) at ih in
         rw (c, d, and-true, r, z, add-zero))
         (λ c.
@@ -78,6 +80,7 @@ module _ {capacity count : ℕ} {rule : ℕ → ℕ → Bool} {events : List Eve
         let ih : countBelow B (usedBy older k) ≡ cond ((staysLive id k newer && not (eqb a id)) && liveOn older id k) 1 0 =
         rw (stays-append, and-true) at (count-live (newer ++ (removed a ∷ [])) older (below newer (removed a) older e)) in
         ih ∙ rw and-assoc
+    count-live newer (spent s ∷ older) e = absurd (not-spent newer older s (rw e at (R .none)))
 
     -- the marks of the id's entries on the server
     length-on : length (marksOn capacity (usedBy events k) m id k) ≡ cond (liveOn events id k) 1 0
@@ -93,5 +96,5 @@ module _ {capacity count : ℕ} {rule : ℕ → ℕ → Bool} {events : List Eve
   unfolding marksOver countBelow
   length-over p zero = refl
   length-over p (suc n) = byBool (p n)
-      (λ d. rw (d, length-append, length-on n, length-over p n))
-      (λ d. rw (d, length-over p n, zero-add))
+      (λ d. rw (d, length-append, length-on n, length-over p n) (add-comm (countBelow (λ k. p k && liveOn events id k) n) (cond (liveOn events id n) 1 0)))
+      (λ d. rw (d, append-nil, length-over p n, zero-add))

@@ -12,7 +12,7 @@ use Rattle.tenants.specs.Tenant.{tenantOf}
 use Rattle.replies.specs.Refusal.{firstOf}
 use Rattle.replies.specs.declared.Reply.{Reply}
 use Rattle.history.specs.Call.{Call, addServer, reweight, write, delete, lookup, batch, Compared}
-use Rattle.history.specs.Ledger.{Event, wrote, removed, Ledger, Entered, told, wordsFor, lastWriteOf, targetL, batchL, rowsOf, doneOf, readsL}
+use Rattle.history.specs.Ledger.{Event, wrote, removed, spent, Ledger, Entered, told, wordsFor, lastWriteOf, targetL, batchL, rowsOf, doneOf, readsL}
 use Rattle.isolation.specs.Seen.{supposed, Heard, toCall, toBatch}
 use Rattle.isolation.proofs.LiveOn.{liveOn}
 
@@ -21,6 +21,7 @@ unfoldable pub eventsOf : ℕ → List Event → List Event
 eventsOf tenant [] = []
 eventsOf tenant (wrote id value server ∷ older) = cond (eqb (tenantOf id) tenant) (wrote id value server ∷ eventsOf tenant older) (eventsOf tenant older)
 eventsOf tenant (removed id ∷ older) = cond (eqb (tenantOf id) tenant) (removed id ∷ eventsOf tenant older) (eventsOf tenant older)
+eventsOf tenant (spent server ∷ older) = eventsOf tenant older
 
 -- a ledger with other events, over just the words that its servers have
 unfoldable pub trimmed : Ledger → List Event → Ledger
@@ -108,6 +109,7 @@ module _ (tenant id : ℕ) (own : tenantOf id ≡ tenant) where
   live-own (removed a ∷ older) k = byBool (eqb (tenantOf a) tenant)
       (λ d. rw (d, live-own older k))
       (λ d. rw (d, other-id tenant id a own d) (live-own older k))
+  live-own (spent s ∷ older) k = live-own older k
 
   pub last-own : (events : List Event) → lastWriteOf (eventsOf tenant events) id ≡ lastWriteOf events id
   unfolding eventsOf lastWriteOf
@@ -118,3 +120,4 @@ module _ (tenant id : ℕ) (own : tenantOf id ≡ tenant) where
   last-own (removed a ∷ older) = byBool (eqb (tenantOf a) tenant)
       (λ d. rw (d, last-own older))
       (λ d. rw (d, other-id tenant id a own d) (last-own older))
+  last-own (spent s ∷ older) = last-own older

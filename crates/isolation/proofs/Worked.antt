@@ -24,12 +24,12 @@ use Rattle.server_rows.specs.ServerRows.{startRows, addServerRows, reweightRows
 use Rattle.servers.specs.Servers.{startTable, addServerReply, addServerTable, reweightReply, reweightTable}
 use Rattle.batch_answer.specs.Answer.{mounts, endsAt, byEnd, order, filled, batchBy, openedIn, tooLong, settledBatch}
 use Rattle.batch.specs.Batch.{lookupOpens, openedAt, batchRows, batchReply, batchTable}
-use Rattle.history.specs.Machine.{reply, next, after, begin}
+use Rattle.history.specs.Machine.{reply, next, turned, afterTurns, begin}
 use Rattle.isolation.specs.Seen.{sees, supposed, verdict, shown, hears, seen, verdicts, heard}
 use Rattle.isolation.specs.Worked.{alone, among, both, expected, neighbours, spared, filled as full, Worked}
 
 pub worked : Worked
-unfolding alone among both expected neighbours spared full allBelow someBelow highest orZero upward countBelow total setBelow stepOf nonzero seedOf xorLeft xorRight roundOf drawOf exceeds atLeast raise shareOf writeP takes pick writeServer readable serverAt entryAt bearsAt live blankRun burnAll marksOn marksOver invalidations inRange readSound serverSound sound inBounds grown counted withServer withWeight oneMore withEntry withOpened firstOf settle replyBy lastLive opening searchBelow searchFor startRows startTable addServerRows addServerReply addServerTable reweightRows reweightReply reweightTable short readyRows askedRows tenantOf outOfRange ofAnother target entryRows writeRows writeMarks writeBurns writeReply writeTable writeMedium isMet deleteRows deleteMarks deleteReply deleteMedium lookupRows metReply lookupReply lookupTable lowest opens mounts endsAt byEnd order filled batchBy openedIn tooLong settledBatch lookupOpens openedAt batchRows batchReply batchTable reply next after begin sees supposed verdict shown hears seen verdicts heard
+unfolding alone among both expected neighbours spared full allBelow someBelow highest orZero upward countBelow total setBelow stepOf nonzero seedOf xorLeft xorRight roundOf drawOf exceeds atLeast raise shareOf writeP takes pick writeServer readable serverAt entryAt bearsAt live blankRun burnAll marksOn marksOver invalidations inRange readSound serverSound sound inBounds grown counted withServer withWeight oneMore withEntry withOpened firstOf settle replyBy lastLive opening searchBelow searchFor startRows startTable addServerRows addServerReply addServerTable reweightRows reweightReply reweightTable short readyRows askedRows tenantOf outOfRange ofAnother target entryRows writeRows writeMarks writeBurns writeReply writeTable writeMedium isMet deleteRows deleteMarks deleteReply deleteMedium lookupRows metReply lookupReply lookupTable lowest opens mounts endsAt byEnd order filled batchBy openedIn tooLong settledBatch lookupOpens openedAt batchRows batchReply batchTable reply next turned afterTurns begin sees supposed verdict shown hears seen verdicts heard
 worked = record {
   seenSame = refl;
   verdictsSame = refl;

@@ -10,7 +10,8 @@ use Rattle.history.specs.Machine.{after, begin}
 use Rattle.isolation.specs.Seen.{seen, verdicts, heard}
 
 -- "In two histories on blank discs with the same start": two lists of calls on fresh tables of the same capacity, over n and over
--- n′ blank words. They are any lists: in each the calls of other tenants, accepted or refused, may come anywhere.
+-- n′ blank words. They are any lists: in each the calls of other tenants, accepted or refused, may come anywhere. Nothing crashes in a
+-- list of calls (document 02, item 7: "the clubs' invisibility is meant for histories without cuts").
 -- "Fits, weighs and calls of one club, in the same order": the tenant sees the same of both.
 -- "Where those fits and weighs and that club's writes are accepted or refused alike": the verdicts on these are the same.
 -- "The club gets the same values, void counts and opened counts": it hears the same, reply by reply. That is the whole replies to its

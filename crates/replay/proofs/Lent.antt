@@ -6,7 +6,7 @@ use mathlib.Core.List.{List}
 use lib.ListN.{length}
 use borrow.Author.Tests.{lt-ltb, le-ltb}
 use Rattle.table_words.specs.Words.{tableLength, withTable}
-use Rattle.history.specs.Machine.{after}
+use Rattle.history.specs.Machine.{turned, afterTurns, after}
 use Rattle.encoding.specs.Encoding.{roomFor}
 use Rattle.call_words.specs.CallWords.{lent}
 use Rattle.replay.specs.Replay.{callsBelow, withReplies, replyAt}
@@ -23,7 +23,7 @@ Resumed words m calls replies n words′ medium replies′ =
 module _ (words m calls replies : List ℕ) where
   -- none, from too few words
   pub none-resumed : length words < tableLength → Resumed words m calls replies 0 words m replies
-  unfolding resumes withTable after callsBelow withReplies
+  unfolding resumes withTable turned afterTurns callsBelow withReplies
   none-resumed l = rw (lt-ltb (length words) tableLength l) (refl, (refl, (refl, refl)))
 
   -- as many as there is room for, from a table

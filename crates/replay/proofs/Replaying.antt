@@ -25,10 +25,10 @@ use Rattle.server_rows.specs.ServerRows.{startRows}
 use Rattle.servers.specs.Servers.{startTable}
 use Rattle.servers.proofs.Starts.{start-arrays}
 use Rattle.history.specs.Call.{Call, compared}
-use Rattle.history.specs.Machine.{State, after, begin, startState}
+use Rattle.history.specs.Machine.{State, turned, afterTurns, after, begin, startState}
 use Rattle.history.specs.Ledger.{freshLedger, ledgerAfter}
-use Rattle.history.proofs.Unaltered.{after-append}
-use Rattle.history.proofs.Run.{begin-agrees, step, run}
+use Rattle.history.proofs.Unaltered.{after-calls}
+use Rattle.history.proofs.Run.{begin-agrees, step, run-calls}
 use Rattle.encoding.specs.Encoding.{callLength, numberOffset, tenantOffset, subjectOffset, amountOffset, replyLength, roomFor, withReplyAt, withReply}
 use Rattle.dispatch.specs.ByNumber.{callOf, callAt, replyTo, nextBy}
 use Rattle.encoding.proofs.Storing.{Stored, length-withReply, stored-here, stored-below}
@@ -39,9 +39,9 @@ use Rattle.replay.specs.Replay.{appended, callsBelow, ledgerReplyTo, wit
 
 -- one call more
 appended-after : (S : State) (calls : List Call) (o : Option Call) → after S (appended calls o) ≡ nextBy (after S calls) o
-unfolding appended nextBy after
+unfolding appended nextBy turned afterTurns
 appended-after S calls none = refl
-appended-after S calls (some c) = after-append calls (c ∷ []) S
+appended-after S calls (some c) = after-calls calls (c ∷ []) S
 
 after-more : (S : State) (calls : List ℕ) (i : ℕ) → after S (callsBelow calls (i + 1)) ≡ nextBy (after S (callsBelow calls i)) (callAt calls i)
 unfolding callsBelow
@@ -72,7 +72,7 @@ module _ (capacity salt : ℕ) (z : firstOf (startRows capacity salt) ≡ 0) (m 
   unfolding replyTo ledgerReplyTo compared
   ledger-alike calls none = refl
   ledger-alike calls (some c) =
-      let r = run calls (begin capacity salt (length m)) (freshLedger capacity salt (length m)) (begin-agrees capacity salt (length m) z) in
+      let r = run-calls calls (begin capacity salt (length m)) (freshLedger capacity salt (length m)) (begin-agrees capacity salt (length m) z) in
       step _ _ (r .agrees) c .alike
 
   alike-at : (calls : List ℕ) (i : ℕ) → compared (replyAt (startState capacity salt m) calls i) ≡ ledgerReplyAt capacity salt (length m) calls i
@@ -105,12 +105,12 @@ module _ (words m calls replies : List ℕ) (l : tableLength ≤ length words) w
   S = lent words m
 
   after-arrays : (i : ℕ) → Arrays (after S (callsBelow calls i) .table)
-  unfolding after callsBelow
+  unfolding turned afterTurns callsBelow
   after-arrays zero = lent-arrays words l
   after-arrays (suc i) = subst (λ (T : State). Arrays (T .table)) (sym (appended-after S (callsBelow calls i) (callAt calls i))) (call-arrays (after S (callsBelow calls i)) (callAt calls i) (after-arrays i))
 
   pub none-run : Replayed words m calls replies 0 words m replies
-  unfolding after callsBelow withReplies
+  unfolding turned afterTurns callsBelow withReplies
   none-run = record { state = refl; table = sym (stored-same words l); stored = refl; sameTable = refl; sameMedium = refl; sameReplies = refl }
 
   pub one-run : (i : ℕ) (words₁ words₂ medium medium′ replies₁ replies₂ : List ℕ) (r : Reply)
@@ -181,7 +181,7 @@ Done capacity salt m calls words n medium replies =
 module _ (capacity salt : ℕ) (m calls words : List ℕ) where
   -- none, from a start that was refused
   pub refused-run : firstOf (startRows capacity salt) ≢ 0 → Done capacity salt m calls words 0 m words
-  unfolding runs after callsBelow withReplies
+  unfolding runs turned afterTurns callsBelow withReplies
   refused-run f = (sym (settle-no (startRows capacity salt) _ 0 f), (refl, (refl, record { alike = λ b i l. absurd (omega arith) })))
 
   -- all of them, from a start that was accepted
