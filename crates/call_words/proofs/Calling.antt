@@ -22,10 +22,10 @@ use Rattle.replies.specs.declared.Reply.{Reply}
 use Rattle.history.specs.Call.{Call}
 use Rattle.history.specs.Machine.{State}
 use Rattle.encoding.specs.Encoding.{callLength, replyLength, tooShort, withReplyAt}
-use Rattle.dispatch.specs.ByNumber.{callOf, callAt, replyTo, nextBy, usedAfter}
+use Rattle.dispatch.specs.ByNumber.{callOf, replyTo, nextBy, usedAfter}
 use Rattle.dispatch.proofs.Calling.{withUsed, counts, called-in}
 use Rattle.call_words.proofs.Kept.{call-count, stored-again}
-use Rattle.call_words.specs.CallWords.{lent, fitsCall, afterCall, withColumn}
+use Rattle.call_words.specs.CallWords.{lent, AfterCall, fitsCall, whereFits, withColumn}
 use Rattle.call_words.proofs.Columns.{used-stored}
 
 -- what `run` ensures
@@ -87,38 +87,32 @@ module _ (words m : List ℕ) (number tenant subject amount : ℕ) (l : tableLen
       ∙ stored-again words entered _ l entered-arrays
       ∙ ap (withTable words) (called-in (lent words m) number tenant subject amount r e used _ _ a b refl refl refl .1 .0)
 
--- what `call` ensures where it answers n
-abbrev pub Done : List ℕ → List ℕ → List ℕ → List ℕ → ℕ → List ℕ → List ℕ → List ℕ → Type 0
-Done table m call reply n table′ m′ reply′ =
-    (n ≡ afterCall table m call reply .number)
-    × ((table′ ≡ afterCall table m call reply .table)
-    × ((m′ ≡ afterCall table m call reply .medium)
-    × (reply′ ≡ afterCall table m call reply .reply)))
+-- what a call leaves where it answers n
+abbrev pub Leaves : AfterCall → ℕ → List ℕ → List ℕ → List ℕ → Type 0
+Leaves after n table m reply = (n ≡ after .number) × ((table ≡ after .table) × ((m ≡ after .medium) × (reply ≡ after .reply)))
 
-module _ (table m call reply : List ℕ) where
-  call-short : fitsCall table call reply ≡ false → Done table m call reply tooShort table m reply
-  unfolding afterCall
-  call-short e = rw e (refl, (refl, (refl, refl)))
+-- by which of the runs is too short, or none
+module _ (table m call reply : List ℕ) (done : AfterCall) where
+  too-short : fitsCall table call reply ≡ false → Leaves (whereFits table m call reply done) tooShort table m reply
+  too-short e = rw e (refl, (refl, (refl, refl)))
 
-  pub table-short : length table < tableLength → Done table m call reply tooShort table m reply
+  pub table-short : length table < tableLength → Leaves (whereFits table m call reply done) tooShort table m reply
   unfolding fitsCall
-  table-short l = call-short (rw (lt-leb _ _ l))
+  table-short l = too-short (rw (lt-leb _ _ l))
 
-  pub words-short : tableLength ≤ length table → length call < callLength → Done table m call reply tooShort table m reply
+  pub words-short : tableLength ≤ length table → length call < callLength → Leaves (whereFits table m call reply done) tooShort table m reply
   unfolding fitsCall
-  words-short a l = call-short (rw (le-leb _ _ a, lt-leb _ _ l))
+  words-short a l = too-short (rw (le-leb _ _ a, lt-leb _ _ l))
 
-  pub reply-short : tableLength ≤ length table → callLength ≤ length call → length reply < replyLength → Done table m call reply tooShort table m reply
+  pub reply-short : tableLength ≤ length table → callLength ≤ length call → length reply < replyLength → Leaves (whereFits table m call reply done) tooShort table m reply
   unfolding fitsCall
-  reply-short a b l = call-short (rw (le-leb _ _ a, le-leb _ _ b, lt-leb _ _ l))
+  reply-short a b l = too-short (rw (le-leb _ _ a, le-leb _ _ b, lt-leb _ _ l))
 
+-- the call is run, and its reply is stored
+module _ (table m call reply : List ℕ) (r′ : Reply) (t : Table) (m′ : List ℕ) where
   pub call-done : tableLength ≤ length table → callLength ≤ length call → replyLength ≤ length reply
-      → (r : Reply) (table′ m′ reply′ : List ℕ)
-      → r ≡ replyTo (lent table m) (callAt call 0)
-      → table′ ≡ withTable table (nextBy (lent table m) (callAt call 0) .table)
-      → m′ ≡ nextBy (lent table m) (callAt call 0) .medium
-      → reply′ ≡ withReplyAt reply 0 r
-      → Done table m call reply (r .refusal) table′ m′ reply′
-  unfolding afterCall fitsCall
-  call-done a b d r table′ m′ reply′ e f g h =
+      → (r : Reply) (table₂ m₂ reply₂ : List ℕ) → r ≡ r′ → table₂ ≡ withTable table t → m₂ ≡ m′ → reply₂ ≡ withReplyAt reply 0 r
+      → Leaves (whereFits table m call reply (record { number = r′ .refusal; table = withTable table t; medium = m′; reply = withReplyAt reply 0 r′ })) (r .refusal) table₂ m₂ reply₂
+  unfolding fitsCall
+  call-done a b d r table₂ m₂ reply₂ e f g h =
       rw (le-leb _ _ a, le-leb _ _ b, le-leb _ _ d) (ap (λ (x : Reply). x .refusal) e, (f, (g, h ∙ ap (withReplyAt reply 0) e)))

@@ -1,3 +1,3 @@
 pub mod Columns
 pub mod Kept
-mod Calling
+pub mod Calling

@@ -25,15 +25,20 @@ pub record AfterCall : Type 0 where
 unfoldable pub fitsCall : List ℕ → List ℕ → List ℕ → Bool
 fitsCall table call reply = leb tableLength (length table) && (leb callLength (length call) && leb replyLength (length reply))
 
+-- what is done where every run is long enough
+abbrev pub whereFits : List ℕ → List ℕ → List ℕ → List ℕ → AfterCall → AfterCall
+whereFits table m call reply done =
+    cond (fitsCall table call reply) done
+    (record { number = tooShort; table = table; medium = m; reply = reply })
+
 -- the call is the one at the front of its words
 unfoldable pub afterCall : List ℕ → List ℕ → List ℕ → List ℕ → AfterCall
 afterCall table m call reply =
     let S = lent table m in
     let r = replyTo S (callAt call 0) in
     let after = nextBy S (callAt call 0) in
-    cond (fitsCall table call reply)
+    whereFits table m call reply
     (record { number = r .refusal; table = withTable table (after .table); medium = after .medium; reply = withReplyAt reply 0 r })
-    (record { number = tooShort; table = table; medium = m; reply = reply })
 
 -- the words with another column from a word on
 unfoldable pub withColumn : List ℕ → ℕ → List ℕ → List ℕ

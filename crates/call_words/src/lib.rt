@@ -56,7 +56,7 @@ fn run_on(
 }
 
 // Counts the entry of an accepted write as used on its server.
-fn count(words: &mut [u32], number: u32, reply: Reply)
+pub fn count(words: &mut [u32], number: u32, reply: Reply)
     requires { ⌜ tableLength ≤ length (now words) ⌝ }
     requires { ⌜ (number ≡ writeNumber → reply .refusal ≡ 0
         → (reply .server < maxServers) × (nth (columnFrom (now words) usedOffset) (reply .server) < maxCapacity)) ⌝ }

@@ -11,6 +11,8 @@ ghost use Rattle.table.specs.Parts.{tableOf, Whole};
 ghost use Rattle.replies.specs.Number.{addServerNumber, reweightNumber, writeNumber};
 ghost use Rattle.replies.specs.Reply.{refused, replyOfServer};
 ghost use Rattle.dispatch.specs.ByNumber.{callOf, noCall, replyTo, nextBy, usedAfter};
+ghost use Rattle.dispatch.specs.BySome.{someReply, someNext};
+use limits::ALL_BURNS;
 use replies::ADD_SERVER;
 use replies::DELETE;
 use replies::LOOKUP;
@@ -53,6 +55,39 @@ fn no_call() -> Reply
     }
 }
 
+// Runs a write or a delete with a number of burns on a table whose columns are borrowed; any other number is no call. The call's
+// numbers come first, so that they are handed over in registers (docs/BENCHMARKS.md).
+pub fn run_some<'a>(
+    number: u32,
+    tenant: u32,
+    id: u32,
+    value: u32,
+    burns: usize,
+    shape: Shape,
+    columns: Columns<'a>,
+    steps: &[u32],
+    medium: &mut [u32],
+) -> Reply
+    requires { ⌜ Whole columns ⌝ }
+    requires { ⌜ areSteps (now steps) ≡ true ⌝ }
+    ensures reply { λ r. ⌜ r
+        ≡ someReply (record { table = tableOf shape (columns .entry); medium = now (medium .entry) }) number tenant id value ⌝ }
+    ensures medium { λ _. ⌜ now (medium .exit)
+        ≡ someNext (record { table = tableOf shape (columns .entry); medium = now (medium .entry) }) number tenant id value burns .medium ⌝ }
+{
+    match number {
+        WRITE => {
+            let w = writing::write_in(shape, columns, steps, medium, tenant, id, value, burns);
+            replies::write_reply(w)
+        }
+        DELETE => {
+            let d = deletion::delete_in(shape, columns, steps, medium, tenant, id, burns);
+            replies::delete_reply(d)
+        }
+        _ => no_call(),
+    }
+}
+
 // Runs a call but add_server and reweight on a table whose columns are borrowed. `count_write` and `counters::count` then make the
 // table after it.
 pub fn run_in<'a>(
@@ -73,21 +108,21 @@ pub fn run_in<'a>(
     ensures medium { λ _. ⌜ now (medium .exit)
         ≡ nextBy (record { table = tableOf shape (columns .entry); medium = now (medium .entry) }) (callOf number tenant subject amount) .medium ⌝ }
 {
-    match number {
-        WRITE => {
-            let answer = writing::write_in(shape, columns, steps, medium, tenant, subject, amount);
-            replies::write_reply(answer)
-        }
-        DELETE => {
-            let answer = deletion::delete_in(shape, columns, steps, medium, tenant, subject);
-            replies::delete_reply(answer)
-        }
-        LOOKUP => {
-            let answer = lookup::lookup_in(shape, columns, steps, medium, tenant, subject);
-            replies::lookup_reply(answer)
-        }
-        _ => no_call(),
+    if number == LOOKUP {
+        let answer = lookup::lookup_in(shape, columns, steps, medium, tenant, subject);
+        return replies::lookup_reply(answer);
     }
+    run_some(
+        number,
+        tenant,
+        subject,
+        amount,
+        ALL_BURNS,
+        shape,
+        columns,
+        steps,
+        medium,
+    )
 }
 
 // Counts the entry of an accepted write as used on its server.

@@ -17,7 +17,7 @@ use Rattle.table_words.specs.Words.{tableLength, tableFrom, withTable}
 use Rattle.table_words.proofs.Lent.{stored-lent}
 use Rattle.servers.specs.Servers.{startTable}
 use Rattle.history.specs.Call.{Call}
-use Rattle.history.specs.Machine.{State, after, begin}
+use Rattle.history.specs.Machine.{State, turned, afterTurns, after, begin}
 use Rattle.encoding.specs.Encoding.{callLength}
 use Rattle.dispatch.specs.ByNumber.{callAt, nextBy}
 use Rattle.call_words.specs.CallWords.{lent, fitsCall, afterCall}
@@ -54,14 +54,14 @@ module _ (R : Runs) (call : List ℕ) (l : tableLength ≤ length (R .table)) wh
       rw e ((λ i. record { table = ap tableFrom (d .0) i; medium = d .1 i }), omega (arith, ap length (d .0))))
 
 after-joined : (S : State) (o : Option Call) (calls : List Call) → after S (joined o calls) ≡ after (nextBy S o) calls
-unfolding after joined nextBy
+unfolding turned afterTurns joined nextBy
 after-joined S none calls = refl
 after-joined S (some c) calls = refl
 
 -- all of them
 pub sequence : (calls : List (List ℕ)) (R : Runs) → tableLength ≤ length (R .table)
     → lent (afterCalls R calls .table) (afterCalls R calls .medium) ≡ after (lent (R .table) (R .medium)) (callsOf calls)
-unfolding afterCalls callsOf after
+unfolding afterCalls callsOf turned afterTurns
 sequence [] R l = refl
 sequence (call ∷ calls) R l =
     let o = one-call R call l in

@@ -10,7 +10,7 @@ use Rattle.encoding.specs.Encoding.{tooShort}
 
 -- the version of the interface: it grows when a signature or an encoding changes
 abbrev pub version : ℕ
-version = 5
+version = 6
 
 -- the number that a start answers, by the words lent for its table
 unfoldable pub startNumber : ℕ → ℕ → List ℕ → ℕ

@@ -10,13 +10,15 @@ ghost use Rattle.servers.specs.Servers.{startTable};
 ghost use Rattle.history.specs.Machine.{after, startState};
 ghost use Rattle.replay.specs.Replay.{callsBelow, withReplies, runs, replyAt, LedgerWords};
 ghost use Rattle.call_words.specs.CallWords.{lent, afterCall};
+ghost use Rattle.some_words.specs.SomeWords.{afterSome};
 ghost use Rattle.replay.specs.Lent.{resumes};
 ghost use Rattle.batch_words.specs.BatchWords.{afterBatch};
 ghost use Rattle.image_words.specs.ImageWords.{afterEncode, decodeNumber, afterDecode};
+ghost use Rattle.recover_words.specs.RecoverWords.{recoverNumber, afterRecover};
 ghost use Rattle.embed.specs.Embed.{version, startNumber};
 
 // The version of the interface: it grows when a signature or an encoding changes.
-const VERSION: u32 = 5;
+const VERSION: u32 = 6;
 
 #[no_mangle]
 pub extern "C" fn archive_abi() -> u32
@@ -62,6 +64,22 @@ pub extern "C" fn archive_call(
     ensures reply { λ _. ⌜ now (reply .exit) ≡ afterCall (now (table .entry)) (now (medium .entry)) (now (call .entry)) (now (reply .entry)) .reply ⌝ }
 {
     call_words::call(table, medium, call, reply)
+}
+
+// Runs the write or the delete at the front of its words with the burns that they say, stores its reply and answers its refusal number.
+#[no_mangle]
+pub extern "C" fn archive_call_some(
+    table: &mut [u32],
+    medium: &mut [u32],
+    call: &[u32],
+    reply: &mut [u32],
+) -> u32
+    ensures number { λ r. ⌜ r ≡ afterSome (now (table .entry)) (now (medium .entry)) (now (call .entry)) (now (reply .entry)) .number ⌝ }
+    ensures table { λ _. ⌜ now (table .exit) ≡ afterSome (now (table .entry)) (now (medium .entry)) (now (call .entry)) (now (reply .entry)) .table ⌝ }
+    ensures medium { λ _. ⌜ now (medium .exit) ≡ afterSome (now (table .entry)) (now (medium .entry)) (now (call .entry)) (now (reply .entry)) .medium ⌝ }
+    ensures reply { λ _. ⌜ now (reply .exit) ≡ afterSome (now (table .entry)) (now (medium .entry)) (now (call .entry)) (now (reply .entry)) .reply ⌝ }
+{
+    some_words::call_some(table, medium, call, reply)
 }
 
 // Runs a list of calls on a started table.
@@ -164,4 +182,13 @@ pub extern "C" fn archive_decode(image: &[u32], table: &mut [u32]) -> u32
     ensures table { λ _. ⌜ now (table .exit) ≡ afterDecode (now (image .entry)) (now (table .entry)) ⌝ }
 {
     image_words::decode(image, table)
+}
+
+// Sets the used of every server of a table from the medium, which is only read.
+#[no_mangle]
+pub extern "C" fn archive_recover(table: &mut [u32], medium: &[u32]) -> u32
+    ensures number { λ r. ⌜ r ≡ recoverNumber (now (table .entry)) (now (medium .entry)) ⌝ }
+    ensures table { λ _. ⌜ now (table .exit) ≡ afterRecover (now (table .entry)) (now (medium .entry)) ⌝ }
+{
+    recover_words::recover(table, medium)
 }

@@ -10,8 +10,9 @@
 --   6      burns                            0
 --   7      0                                0
 --
--- A call's number says which of its words count, and no other is read. No call reads its words 4 to 7 yet, and word 3 of
--- every reply is 0. All eight words of a reply are written, a 0 where it carries nothing.
+-- A call's number says which of its words count, and no other is read. The burns are read of a write or a delete that makes a number
+-- of its burns, and of no other call. No call reads its words 4, 5 and 7 yet, and word 3 of every reply is 0. All eight words of a reply
+-- are written, a 0 where it carries nothing.
 use Prim.Native.Nat.{ℕ, _+_, _*_, _/_, min}
 use mathlib.Core.List.{List}
 use lib.ListN.{set}
@@ -33,6 +34,9 @@ subjectOffset = 2
 
 abbrev pub amountOffset : ℕ
 amountOffset = 3
+
+abbrev pub burnsOffset : ℕ
+burnsOffset = 6
 
 -- how many words a reply has, and where each stands in it
 abbrev pub replyLength : ℕ

@@ -16,6 +16,8 @@ pub const SUBJECT_OFFSET: usize = 2;
 
 pub const AMOUNT_OFFSET: usize = 3;
 
+pub const BURNS_OFFSET: usize = 6;
+
 // How many words a reply has, and where each stands; the high bits of a value, and the last two, are 0.
 pub const REPLY_LENGTH: usize = 8;
 

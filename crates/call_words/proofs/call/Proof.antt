@@ -2,6 +2,7 @@
 use borrow.Author.Needs.{needs}
 use Rattle.dispatch.specs.ByNumber.{callAt}
 use Rattle.dispatch.proofs.Calling.{called-small}
+use Rattle.call_words.specs.CallWords.{afterCall}
 use Rattle.call_words.proofs.Calling.{table-short, words-short, reply-short, call-done}
 use Rattle.call_words.proofs.call.Statement.{statement}
 use Rattle.call_words.proofs.call.Tie as tie
@@ -14,17 +15,20 @@ abbrev E : tie.After-run → tie.Else3
 E c = c .before .before .before .before .before .before .before .before .before
 
 returns : tie.Need-returns
-returns c = let a = c .before .before .before .before .before .args in table-short (a .table .now) (a .medium .now) (a .call .now) (a .reply .now) (c .if1 .taken)
+unfolding afterCall
+returns c = let a = c .before .before .before .before .before .args in table-short (a .table .now) (a .medium .now) (a .call .now) (a .reply .now) _ (c .if1 .taken)
 
 returns-2 : tie.Need-returns-2
+unfolding afterCall
 returns-2 c =
     let a = c .before .before .before .before .before .before .args in
-    words-short (a .table .now) (a .medium .now) (a .call .now) (a .reply .now) (c .before .if1 .left) (c .if2 .taken)
+    words-short (a .table .now) (a .medium .now) (a .call .now) (a .reply .now) _ (c .before .if1 .left) (c .if2 .taken)
 
 returns-3 : tie.Need-returns-3
+unfolding afterCall
 returns-3 c =
     let a = c .before .before .before .before .before .before .before .args in
-    reply-short (a .table .now) (a .medium .now) (a .call .now) (a .reply .now) (c .before .before .if1 .left) (c .before .if2 .left) (c .if3 .taken)
+    reply-short (a .table .now) (a .medium .now) (a .call .now) (a .reply .now) _ (c .before .before .if1 .left) (c .before .if2 .left) (c .if3 .taken)
 
 steps-requires : tie.Need-steps-requires
 steps-requires c κs = search needs
@@ -62,13 +66,13 @@ same-length-3 : tie.Need-same-length-3
 same-length-3 c = search needs
 
 returns-4 : tie.Need-returns-4
-unfolding callAt
+unfolding afterCall callAt
 returns-4 c =
     let w = c .before .before in
     let r = w .before .before .before .before .before .before in
     let e = E r in
     let a = S e .args in
-    call-done (a .table .now) (a .medium .now) (a .call .now) (a .reply .now) (e .before .before .if1 .left) (e .before .if2 .left) (e .if3 .left)
+    call-done (a .table .now) (a .medium .now) (a .call .now) (a .reply .now) _ _ _ (e .before .before .if1 .left) (e .before .if2 .left) (e .if3 .left)
     _ _ _ _ (r .run .ensures .0) (r .run .ensures .1 .0) (r .run .ensures .1 .1) (w .store .ensures)
 
 pub call-spec : {M : Type 1} → statement M
