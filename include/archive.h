@@ -38,9 +38,11 @@ extern "C" {
  * after their first word. Version 4 has counters: eight words more at the end of the table, which lookups and
  * archive_lookup_batch change, so that the latter takes a table that it may write to. The tables of version 3 are those of
  * version 4 once eight zeros are put after their last word. Version 5 has images: archive_encode, archive_decode, and refusals 12
- * and 13. Nothing of version 4 changed: its tables, calls and replies are those of version 5.
+ * and 13. Nothing of version 4 changed: its tables, calls and replies are those of version 5. Version 6 has archive_call_some,
+ * with word 6 of its call, and archive_recover. A write or a delete now burns its marks lowest first, where it burned those of
+ * the highest server first: what it leaves is the same. The tables, calls and replies of version 5 are those of version 6.
  */
-#define ARCHIVE_ABI 5u
+#define ARCHIVE_ABI 6u
 
 /* How many words a table, a call and a reply have. */
 #define ARCHIVE_TABLE_WORDS 1035u
@@ -112,7 +114,12 @@ extern "C" {
  *                                                    opened, which the tenant's counter grows by, also where the lookup is
  *                                                    refused after it opened them
  *
- * The other words are for later calls. A number that is no call's gets ARCHIVE_NO_CALL and changes nothing.
+ * Word ARCHIVE_CALL_BURNS counts for archive_call_some alone. The other words are for later calls. A number that is no call's
+ * gets ARCHIVE_NO_CALL and changes nothing.
+ *
+ * A write burns the word of its value, then that of its id, then the marks; a delete burns its marks alone. The marks go lowest
+ * server first, and within a server lowest entry first. So a writer that burns one word after another may be cut off anywhere, as
+ * by a power failure: see archive_recover.
  */
 #define ARCHIVE_ADD_SERVER 1u
 #define ARCHIVE_REWEIGHT 2u
@@ -125,6 +132,7 @@ extern "C" {
 #define ARCHIVE_CALL_TENANT 1
 #define ARCHIVE_CALL_SUBJECT 2
 #define ARCHIVE_CALL_AMOUNT 3
+#define ARCHIVE_CALL_BURNS 6
 
 /* Which word of a reply is which. A word that the call does not carry is 0. */
 #define ARCHIVE_REPLY_REFUSAL 0
@@ -181,6 +189,33 @@ uint32_t archive_call(uint32_t *table, size_t table_words,
                       uint32_t *medium, size_t medium_words,
                       const uint32_t *call, size_t call_words,
                       uint32_t *reply, size_t reply_words);
+
+/*
+ * Runs one write or delete with a number of burns, word ARCHIVE_CALL_BURNS of the call: it makes that many of the call's burns,
+ * first to last, and all where there are no more. The reply is that of archive_call, whatever the number is, with what it has as
+ * INVALIDATED. Where burns are left over, the table is as lent; where none is, this is archive_call. With it a caller can try
+ * what a writer that is cut off leaves.
+ * Answers the reply's refusal number; ARCHIVE_NO_CALL for any other call; or ARCHIVE_SHORT if table, call or reply have too few
+ * words: then no word is changed.
+ */
+uint32_t archive_call_some(uint32_t *table, size_t table_words,
+                           uint32_t *medium, size_t medium_words,
+                           const uint32_t *call, size_t call_words,
+                           uint32_t *reply, size_t reply_words);
+
+/*
+ * Sets from the medium how many entries of each server are used: one past the last that has a word which is not blank. No other
+ * word of the table is changed, and the medium is only read.
+ * It is to be called, before any other call, where a write or a delete was cut off between its burns or in one of them, with the
+ * table as it was before that call. The word that was being burned may then be blank, right, or any word but ARCHIVE_BLANK whose
+ * top two bits are ones; the words burned before it must stand, and those after it be blank. From then on the id of a write that
+ * was cut off shows its old answer or the new value, that of a delete its old answer or none, and every other id its own. An
+ * entry that such a write left not wholly blank stays used. Where no call was cut off, archive_recover changes nothing.
+ * Answers ARCHIVE_ACCEPTED; ARCHIVE_UNSOUND_TABLE; ARCHIVE_SHORT_MEDIUM; or ARCHIVE_SHORT, if `table` has too few words. Unless
+ * it is accepted, no word is changed.
+ */
+uint32_t archive_recover(uint32_t *table, size_t table_words,
+                         const uint32_t *medium, size_t medium_words);
 
 /*
  * Looks up to 256 ids up together for one tenant, and opens each server at most once for all of them. Repeats are allowed.

@@ -1,6 +1,7 @@
 /*
  * Starts an archive of three servers with a salt of its own, writes tickets of two tenants, looks them up, keeps the table as an
- * image and goes on from it, and prints what it did and how many servers it opened for each tenant.
+ * image and goes on from it, goes on after writes that are cut off, and prints what it did and how many servers it opened for
+ * each tenant.
  */
 #include <stdio.h>
 #include <stdlib.h>
@@ -11,17 +12,22 @@
 #define SERVERS 3
 #define WORDS (ARCHIVE_SERVER_WORDS(CAPACITY) * SERVERS)
 
-static uint32_t table[ARCHIVE_TABLE_WORDS], medium[WORDS], reply[ARCHIVE_REPLY_WORDS];
+static uint32_t table[ARCHIVE_TABLE_WORDS], medium[WORDS], words[ARCHIVE_CALL_WORDS], reply[ARCHIVE_REPLY_WORDS];
 static uint32_t image[ARCHIVE_IMAGE_WORDS(SERVERS)];
 
-/* One call; a refusal other than `absent` and `another club's ticket` ends the program. */
-static uint32_t call(uint32_t number, uint32_t tenant, uint32_t subject, uint32_t amount)
+/* The words of a call. */
+static void encode(uint32_t number, uint32_t tenant, uint32_t subject, uint32_t amount)
 {
-    uint32_t words[ARCHIVE_CALL_WORDS] = {0};
     words[ARCHIVE_CALL_NUMBER] = number;
     words[ARCHIVE_CALL_TENANT] = tenant;
     words[ARCHIVE_CALL_SUBJECT] = subject;
     words[ARCHIVE_CALL_AMOUNT] = amount;
+}
+
+/* One call; a refusal other than `absent` and `another club's ticket` ends the program. */
+static uint32_t call(uint32_t number, uint32_t tenant, uint32_t subject, uint32_t amount)
+{
+    encode(number, tenant, subject, amount);
     uint32_t refusal = archive_call(table, ARCHIVE_TABLE_WORDS, medium, WORDS, words, ARCHIVE_CALL_WORDS, reply, ARCHIVE_REPLY_WORDS);
     if (refusal != ARCHIVE_ACCEPTED && refusal != ARCHIVE_NOT_FOUND && refusal != ARCHIVE_OTHER_TENANT) {
         fprintf(stderr, "call %u was refused: %u\n", (unsigned)number, (unsigned)refusal);
@@ -77,6 +83,20 @@ static void read_back(uint32_t length)
         printf("%u words are refused: %u\n", (unsigned)length, (unsigned)refusal);
 }
 
+/* A write by the ticket's own tenant that is cut off after so many burns, and what makes the table good for calls again. */
+static void cut_off(uint32_t id, uint32_t value, uint32_t burns)
+{
+    encode(ARCHIVE_WRITE, ARCHIVE_TENANT_OF(id), id, value);
+    words[ARCHIVE_CALL_BURNS] = burns;
+    archive_call_some(table, ARCHIVE_TABLE_WORDS, medium, WORDS, words, ARCHIVE_CALL_WORDS, reply, ARCHIVE_REPLY_WORDS);
+    uint32_t refusal = archive_recover(table, ARCHIVE_TABLE_WORDS, medium, WORDS);
+    if (refusal != ARCHIVE_ACCEPTED) {
+        fprintf(stderr, "recover was refused: %u\n", (unsigned)refusal);
+        exit(1);
+    }
+    printf("ticket %u: %u, cut off after %u burns\n", (unsigned)id, (unsigned)value, (unsigned)burns);
+}
+
 int main(void)
 {
     if (archive_abi() != ARCHIVE_ABI || archive_start(CAPACITY, SALT, table, ARCHIVE_TABLE_WORDS) != ARCHIVE_ACCEPTED)
@@ -95,6 +115,10 @@ int main(void)
     uint32_t length = keep();
     read_back(length - 1);
     read_back(length);
+    cut_off(1001, 350, 1);
+    look_up(0, 1001);
+    cut_off(1001, 350, 2);
+    look_up(0, 1001);
     call(ARCHIVE_DELETE, 0, 1002, 0);
     look_up(0, 1002);
     print_counter(0);

@@ -1,5 +1,5 @@
-//! The archive in ordinary Rust, from document 01 and the second, fourth and fifth requests of
-//! document 02: a mutable table and a lent medium. A refused call changes neither, but for the
+//! The archive in ordinary Rust, from document 01 and the second, fourth, fifth and seventh requests
+//! of document 02: a mutable table and a lent medium. A refused call changes neither, but for the
 //! counter of a tenant whose refused lookup opened servers.
 
 use crate::placement::{draw, share, write_server, Fraction};
@@ -42,6 +42,34 @@ enum Mark {
 impl Mark {
     fn word(self) -> u32 {
         MARK_TAG << 30 | self as u32
+    }
+}
+
+/// More burns than any call makes: the plain calls are the bodies with so many.
+pub const ALL_BURNS: u32 = u32::MAX;
+
+/// The burns that a body may still make, and whether it had one that it might not make.
+struct Laser {
+    left: u32,
+    is_cut: bool,
+}
+
+impl Laser {
+    fn new(burns: u32) -> Self {
+        Laser {
+            left: burns,
+            is_cut: false,
+        }
+    }
+
+    /// The next burn.
+    fn burn(&mut self, place: &mut u32, word: u32) {
+        if self.left == 0 {
+            self.is_cut = true;
+        } else {
+            self.left -= 1;
+            *place = word;
+        }
     }
 }
 
@@ -186,12 +214,15 @@ impl Table {
         Ok(server)
     }
 
+    /// The body of write, with a number of burns: the value word, the id word, then the marks. Where
+    /// a burn is left over the table keeps its used.
     pub fn write(
         &mut self,
         medium: &mut [u32],
         tenant: u32,
         id: u32,
         value: u32,
+        burns: u32,
     ) -> Result<Written, Refusal> {
         self.refuse_asked(medium, tenant, id, value >= CONTENT_RANGE)?;
         let server = write_server(&self.weights[..self.count as usize], self.salt, id);
@@ -200,22 +231,59 @@ impl Table {
         let entry = &mut medium.as_chunks_mut().0[self.first_entry(server) + used as usize];
         refuse_if(*entry != [BLANK; 3], Refusal::NotBlank)?;
 
-        *entry = [id, VALUE_TAG << 30 | value, BLANK];
-        let invalidated = self.invalidate(medium, server, id, Mark::Replaced);
-        self.used[server] += 1;
+        let mut laser = Laser::new(burns);
+        laser.burn(&mut entry[1], VALUE_TAG << 30 | value);
+        laser.burn(&mut entry[0], id);
+        let invalidated = self.invalidate(medium, server, id, Mark::Replaced, &mut laser);
+        if !laser.is_cut {
+            self.used[server] += 1;
+        }
         Ok(Written {
             server: server as u32,
             invalidated,
         })
     }
 
-    /// Answers how many entries it invalidated.
-    pub fn delete(&self, medium: &mut [u32], tenant: u32, id: u32) -> Result<u32, Refusal> {
+    /// The body of delete, with a number of burns. Answers how many entries it invalidates with all.
+    pub fn delete(
+        &self,
+        medium: &mut [u32],
+        tenant: u32,
+        id: u32,
+        burns: u32,
+    ) -> Result<u32, Refusal> {
         self.refuse_asked(medium, tenant, id, false)?;
-        match self.invalidate(medium, 0, id, Mark::Deleted) {
+        let mut laser = Laser::new(burns);
+        match self.invalidate(medium, 0, id, Mark::Deleted, &mut laser) {
             0 => Err(Refusal::Absent),
             invalidated => Ok(invalidated),
         }
+    }
+
+    /// Sets the used of every server from the medium: one past its last entry with a word that is
+    /// not blank, or 0.
+    pub fn recover(&mut self, medium: &[u32]) -> Result<(), Refusal> {
+        self.refuse_unsound()?;
+        let count = self.count as usize;
+        self.refuse_short(medium, count)?;
+        let entries: &[Entry] = medium.as_chunks().0;
+        let servers = entries.chunks_exact(self.capacity as usize);
+        for (used, entries) in self.used[..count].iter_mut().zip(servers) {
+            let last = entries.iter().rposition(|entry| *entry != [BLANK; 3]);
+            *used = last.map_or(0, |last| last as u32 + 1);
+        }
+        Ok(())
+    }
+
+    /// The server and the entry that a lookup of an id meets, if it meets one.
+    pub fn meets(&self, medium: &[u32], id: u32) -> Option<(usize, usize)> {
+        let servers = 0..self.count as usize;
+        let mut readable = servers.rev().filter(|&k| self.is_readable(k, id));
+        readable.find_map(|server| {
+            let entries = self.entries(medium, server);
+            let entry = entries.iter().rposition(|entry| is_live(entry, id))?;
+            Some((server, entry))
+        })
     }
 
     /// Counts the servers that it opened, found or not.
@@ -345,10 +413,18 @@ impl Table {
         }
     }
 
-    /// Marks the live entries of an id on the readable servers from the highest down to `lowest`.
-    fn invalidate(&self, medium: &mut [u32], lowest: usize, id: u32, mark: Mark) -> u32 {
+    /// Marks the live entries of an id on the readable servers from `lowest` on, the lowest server and
+    /// on a server the lowest entry first. Answers how many there are, marked or not.
+    fn invalidate(
+        &self,
+        medium: &mut [u32],
+        lowest: usize,
+        id: u32,
+        mark: Mark,
+        laser: &mut Laser,
+    ) -> u32 {
         let mut invalidated = 0;
-        for server in (lowest..self.count as usize).rev() {
+        for server in lowest..self.count as usize {
             if !self.is_readable(server, id) {
                 continue;
             }
@@ -356,7 +432,7 @@ impl Table {
             let used = self.used[server] as usize;
             for entry in &mut medium.as_chunks_mut().0[first..first + used] {
                 if is_live(entry, id) {
-                    entry[2] = mark.word();
+                    laser.burn(&mut entry[2], mark.word());
                     invalidated += 1;
                 }
             }

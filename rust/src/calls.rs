@@ -1,16 +1,17 @@
 //! Calls and replies as words, and lists of them run on the Rust implementation. The layout is
 //! that of the proved functions: eight words a call, eight a reply, 1,035 a table.
 
-use crate::archive::{tenant_of, Missed, Refusal, Table, TENANTS};
+use crate::archive::{tenant_of, Missed, Refusal, Table, ALL_BURNS, TENANTS};
 use crate::placement::MAX_SERVERS;
 
-/// A call's words: its number, a tenant, an id or a server, and a value or a weight. The other four
-/// are not read.
+/// A call's words: its number, a tenant, an id or a server, and a value or a weight; and for a body
+/// the number of its burns. The others are not read.
 pub const CALL_WORDS: usize = 8;
 const NUMBER: usize = 0;
 const TENANT: usize = 1;
 const SUBJECT: usize = 2;
 const AMOUNT: usize = 3;
+const BURNS: usize = 6;
 
 /// A reply's words; the other three are 0.
 pub const REPLY_WORDS: usize = 8;
@@ -101,6 +102,13 @@ impl Call {
         words[TENANT] = tenant.unwrap_or(unread);
         words[SUBJECT] = subject.unwrap_or(unread);
         words[AMOUNT] = amount.unwrap_or(unread);
+        words
+    }
+
+    /// The same with a number of burns.
+    pub fn body_words(self, burns: u32, unread: u32) -> [u32; CALL_WORDS] {
+        let mut words = self.words(unread);
+        words[BURNS] = burns;
         words
     }
 
@@ -253,21 +261,34 @@ impl Table {
                     ..Reply::default()
                 })
             }
-            Call::Write { tenant, id, value } => {
-                self.write(medium, tenant, id, value).map(|written| Reply {
-                    server: written.server,
-                    invalidated: written.invalidated,
-                    ..Reply::default()
-                })
-            }
-            Call::Delete { tenant, id } => {
-                self.delete(medium, tenant, id).map(|invalidated| Reply {
-                    invalidated,
-                    ..Reply::default()
-                })
+            Call::Write { .. } | Call::Delete { .. } => {
+                return self.run_some(medium, call, ALL_BURNS)
             }
             Call::Lookup { tenant, id } => return self.run_lookup(medium, tenant, id),
             Call::None { .. } => return Reply::NO_CALL,
+        };
+        result.unwrap_or_else(Reply::refused)
+    }
+
+    /// A write or a delete with a number of burns; no other call has one.
+    pub fn run_some(&mut self, medium: &mut [u32], call: Call, burns: u32) -> Reply {
+        let result = match call {
+            Call::Write { tenant, id, value } => {
+                self.write(medium, tenant, id, value, burns)
+                    .map(|written| Reply {
+                        server: written.server,
+                        invalidated: written.invalidated,
+                        ..Reply::default()
+                    })
+            }
+            Call::Delete { tenant, id } => {
+                self.delete(medium, tenant, id, burns)
+                    .map(|invalidated| Reply {
+                        invalidated,
+                        ..Reply::default()
+                    })
+            }
+            _ => return Reply::NO_CALL,
         };
         result.unwrap_or_else(Reply::refused)
     }

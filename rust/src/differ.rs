@@ -3,11 +3,12 @@
 
 use std::fmt::Write;
 
-use crate::archive::{Table, BLANK};
+use crate::archive::{Table, BLANK, CONTENT_RANGE};
 use crate::calls::{self, Call, CAPACITY, COUNT, COUNTERS, INVALIDATED, PARTS, REFUSAL};
 use crate::calls::{REPLY_WORDS, SALT, TABLE_WORDS};
 use crate::cases::Cases;
 use crate::counters::{self, Told};
+use crate::crash_cases::CrashCases;
 use crate::image_cases::ImageCases;
 use crate::ledger::Ledger;
 use crate::placement::{self, MAX_SERVERS, SALT_RANGE};
@@ -53,6 +54,8 @@ pub struct Tally {
     pub counting: u64,
     /// What was met about images.
     pub images: ImageCases,
+    /// What was met about crashes.
+    pub crashes: CrashCases,
 }
 
 impl Tally {
@@ -254,7 +257,7 @@ pub fn run_blank(
     run_from_start(start, &medium, list, &Encoded::new(list), tally)
         .and_then(|proved| {
             compare_ledger(&mut ledger, list, proved.replies_run())?;
-            compare_live(&proved.medium, ledger.accepted_writes())
+            compare_live(&proved.medium, ledger.writes())
         })
         .map_err(|text| described(text, start, &medium, list))
 }
@@ -332,9 +335,9 @@ fn compare_ledger(ledger: &mut Ledger, list: &[Call], replies: &[u32]) -> Result
     Ok(())
 }
 
-/// The live entries of all ids together are at most the accepted writes.
-fn compare_live(medium: &[u32], writes: usize) -> Result<(), Difference> {
-    let is_live = |entry: &&[u32]| entry[0] != BLANK && entry[2] == BLANK;
+/// The live entries of all ids together are at most the accepted and the crashed writes.
+pub fn compare_live(medium: &[u32], writes: usize) -> Result<(), Difference> {
+    let is_live = |entry: &&[u32]| entry[0] < CONTENT_RANGE && entry[2] == BLANK;
     let live = medium.chunks_exact(3).filter(is_live).count();
     if live > writes {
         return Err(format!("{live} live entries after {writes} writes"));

@@ -1,14 +1,35 @@
-//! The plain ledger of document 01 with the tenants and the salt of document 02: fed the capacity,
-//! the salt, the medium's length and the arguments of the calls, and nothing from a table or a
-//! medium. Everything is worked out anew from its lists.
+//! The plain ledger of document 01 with the tenants, the salt and the crashes of document 02: fed the
+//! capacity, the salt, the medium's length and the arguments of the calls, and nothing from a table.
+//! From a medium it is fed two facts about each crashed call. Everything is worked out anew from its
+//! lists.
 
 use crate::archive::{Refusal, CONTENT_RANGE};
 use crate::calls::{Call, Reply};
 use crate::placement::{draw, Fraction, MAX_SERVERS};
 
+#[derive(Clone)]
 enum Event {
-    Wrote { id: u32, value: u32, server: usize },
-    Deleted { id: u32 },
+    Wrote {
+        id: u32,
+        value: u32,
+        server: usize,
+    },
+    Deleted {
+        id: u32,
+    },
+    /// A crashed write that does not show left an entry of a server not wholly blank.
+    Spent {
+        server: usize,
+    },
+}
+
+/// What a crashed call left, by the medium.
+#[derive(Clone, Copy)]
+pub struct Left {
+    /// The entry that a write was to go to is not wholly blank.
+    pub touched: bool,
+    /// A lookup after recover meets that entry; for a delete, it meets none.
+    pub shows: bool,
 }
 
 /// The last write of an id that no delete followed.
@@ -17,6 +38,7 @@ struct Standing {
     server: usize,
 }
 
+#[derive(Clone)]
 pub struct Ledger {
     capacity: u32,
     salt: u32,
@@ -24,6 +46,8 @@ pub struct Ledger {
     weights: Vec<u32>,
     greatest: Vec<Fraction>,
     events: Vec<Event>,
+    accepted_writes: usize,
+    crashed_writes: usize,
 }
 
 impl Ledger {
@@ -35,6 +59,8 @@ impl Ledger {
             weights: Vec::new(),
             greatest: Vec::new(),
             events: Vec::new(),
+            accepted_writes: 0,
+            crashed_writes: 0,
         }
     }
 
@@ -50,9 +76,41 @@ impl Ledger {
         }
     }
 
-    pub fn accepted_writes(&self) -> usize {
-        let is_write = |event: &&Event| matches!(event, Event::Wrote { .. });
-        self.events.iter().filter(is_write).count()
+    /// A crashed call, and what it left. One that is refused leaves nothing.
+    pub fn crash(&mut self, call: Call, left: Left) {
+        match call {
+            Call::Write { tenant, id, value } => {
+                let Ok(server) = self.written_to(tenant, id, value) else {
+                    return;
+                };
+                self.crashed_writes += 1;
+                match left {
+                    Left { shows: true, .. } => {
+                        self.events.push(Event::Wrote { id, value, server })
+                    }
+                    Left { touched: true, .. } => self.events.push(Event::Spent { server }),
+                    _ => {}
+                }
+            }
+            Call::Delete { tenant, id } if left.shows => {
+                self.delete(tenant, id);
+            }
+            _ => {}
+        }
+    }
+
+    /// The server and the entry that a write would go to, if it is not refused.
+    pub fn target(&self, call: Call) -> Option<(usize, usize)> {
+        let Call::Write { tenant, id, value } = call else {
+            return None;
+        };
+        let server = self.written_to(tenant, id, value).ok()?;
+        Some((server, self.used(server) as usize))
+    }
+
+    /// The accepted and the crashed writes together.
+    pub fn writes(&self) -> usize {
+        self.accepted_writes + self.crashed_writes
     }
 
     fn add_server(&mut self, weight: u32) -> Reply {
@@ -97,21 +155,32 @@ impl Ledger {
         }
     }
 
-    fn write(&mut self, tenant: u32, id: u32, value: u32) -> Reply {
+    /// The server that a write goes to.
+    fn written_to(&self, tenant: u32, id: u32, value: u32) -> Result<usize, Refusal> {
         if value >= CONTENT_RANGE {
-            return Reply::refused(Refusal::OutOfRange);
+            return Err(Refusal::OutOfRange);
         }
         if let Some(refusal) = not_asked(tenant, id).or(self.no_medium()) {
-            return Reply::refused(refusal);
+            return Err(refusal);
         }
         let server = self.write_server(id);
-        if self.used(server) == self.capacity {
-            return Reply::refused(Refusal::ServerFull);
+        match self.used(server) == self.capacity {
+            true => Err(Refusal::ServerFull),
+            false => Ok(server),
         }
-        self.events.push(Event::Wrote { id, value, server });
-        Reply {
-            server: server as u32,
-            ..Reply::default()
+    }
+
+    fn write(&mut self, tenant: u32, id: u32, value: u32) -> Reply {
+        match self.written_to(tenant, id, value) {
+            Ok(server) => {
+                self.accepted_writes += 1;
+                self.events.push(Event::Wrote { id, value, server });
+                Reply {
+                    server: server as u32,
+                    ..Reply::default()
+                }
+            }
+            Err(refusal) => Reply::refused(refusal),
         }
     }
 
@@ -176,7 +245,10 @@ impl Ledger {
     }
 
     fn used(&self, k: usize) -> u32 {
-        let is_on = |event: &&Event| matches!(event, Event::Wrote { server, .. } if *server == k);
+        let is_on = |event: &&Event| match event {
+            Event::Wrote { server, .. } | Event::Spent { server } => *server == k,
+            Event::Deleted { .. } => false,
+        };
         self.events.iter().filter(is_on).count() as u32
     }
 

@@ -10,6 +10,11 @@ mod calls;
 mod cases;
 mod counters;
 mod counting;
+mod crash;
+mod crash_cases;
+mod crash_edges;
+mod crash_trees;
+mod crashes;
 mod differ;
 mod exhaustive;
 mod fractions;
@@ -66,7 +71,7 @@ impl Options {
 }
 
 const USAGE: &str = "\
-compare test [--seed N] [--calls N] [--batches N]
+compare test [--seed N] [--calls N] [--batches N] [--crashes N]
 compare stop
 compare salts
 compare time [--only NAME] [--runs N] [--best FILE]
@@ -108,7 +113,10 @@ fn test(options: &Options) -> ExitCode {
     let seed = options.number("--seed", 1);
     let calls = options.number("--calls", 4_000_000);
     let batches = options.number("--batches", 120_000);
-    println!("seed {seed}, at least {calls} calls and {batches} batches, and the exhaustive lists");
+    let crashes = options.number("--crashes", 1_000_000);
+    println!(
+        "seed {seed}, at least {calls} calls, {batches} batches and {crashes} crashes, and the exhaustive lists"
+    );
     let began = Instant::now();
     let mut tally = Tally::default();
     let result = run_suites(seed, calls, &mut tally)
@@ -116,27 +124,31 @@ fn test(options: &Options) -> ExitCode {
         .and_then(|()| run_batches(seed, batches, &mut tally))
         .and_then(|()| run_neighbours(seed, calls, &mut tally))
         .and_then(|()| run_counting(seed, calls, &mut tally))
-        .and_then(|()| run_images(seed, calls, &mut tally));
+        .and_then(|()| run_images(seed, calls, &mut tally))
+        .and_then(|()| run_crashes(seed, crashes, &mut tally));
     match result {
         Ok(()) => {
             report(&tally);
             println!("no difference in {:.1} s", began.elapsed().as_secs_f64());
-            met_enough(&tally, calls)
+            met_enough(&tally, calls, crashes)
         }
         Err(difference) => {
-            println!("DIFFERENCE (seed {seed}, calls {calls}, batches {batches})\n{difference}");
+            println!(
+                "DIFFERENCE (seed {seed}, calls {calls}, batches {batches}, crashes {crashes})\n{difference}"
+            );
             ExitCode::FAILURE
         }
     }
 }
 
-/// Fails where a salt at an edge, a case of the counters or one of the images was not met often enough
-/// for a difference to show.
-fn met_enough(tally: &Tally, calls: u64) -> ExitCode {
+/// Fails where a salt at an edge, or a case of the counters, of the images or of the crashes was not
+/// met often enough for a difference to show.
+fn met_enough(tally: &Tally, calls: u64, asked: u64) -> ExitCode {
     let salts = tally.by_salt.missed(calls);
     let lists = tally.cases.missed(Kind::Lists, calls);
     let ids = tally.batch_cases.missed(Kind::Batches, calls);
     let images = tally.images.missed(calls);
+    let crashes = tally.crashes.missed(asked);
     if !salts.is_empty() {
         println!("TOO FEW CALLS under the salts {salts:?}");
     }
@@ -149,7 +161,17 @@ fn met_enough(tally: &Tally, calls: u64) -> ExitCode {
     if !images.is_empty() {
         println!("TOO FEW IMAGES with {images:?}");
     }
-    match salts.is_empty() && lists.is_empty() && ids.is_empty() && images.is_empty() {
+    if !crashes.is_empty() {
+        println!("TOO FEW CRASHES with {crashes:?}");
+    }
+    let met = [
+        salts.len(),
+        lists.len(),
+        ids.len(),
+        images.len(),
+        crashes.len(),
+    ];
+    match met == [0; 5] {
         true => ExitCode::SUCCESS,
         false => ExitCode::FAILURE,
     }
@@ -224,6 +246,20 @@ fn run_images(seed: u64, calls: u64, tally: &mut Tally) -> Result<(), Difference
     Ok(())
 }
 
+fn run_crashes(seed: u64, crashes: u64, tally: &mut Tally) -> Result<(), Difference> {
+    for (name, suite, share, counted) in crashes::SUITES {
+        let ran = run_suite(name, suite, seed, crashes * share / 100, tally, counted)?;
+        println!("{name}: {ran}");
+    }
+    for (servers, depth) in [(2, 4), (3, 4)] {
+        let before = tally.crashes.run;
+        crash_trees::run(&mut Random::new(seed), servers, depth, tally)?;
+        let ran = tally.crashes.run - before;
+        println!("every crash of every list of {depth} on {servers} servers: {ran}");
+    }
+    Ok(())
+}
+
 fn run_suites(seed: u64, calls: u64, tally: &mut Tally) -> Result<(), Difference> {
     for (name, suite, share) in suites::SUITES {
         let ran = run_suite(name, suite, seed, calls * share / 100, tally, |t| t.calls)?;
@@ -278,4 +314,5 @@ fn report(tally: &Tally) {
         tally.neighbours_calls, tally.neighbours_ids
     );
     println!("images: {}", tally.images);
+    println!("crashes: {}", tally.crashes);
 }

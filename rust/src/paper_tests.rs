@@ -1,10 +1,10 @@
-//! The known draws, the edges and the example of document 01 and the tenants, salts, counters and
-//! images of document 02, on the Rust implementation and the ledger alone.
+//! The known draws, the edges and the example of document 01 and the tenants, salts, counters, images
+//! and crashes of document 02, on the Rust implementation and the ledger alone.
 
 use crate::archive::{tenant_of, Refusal, Table, BLANK};
 use crate::calls::{Call, Reply};
 use crate::image::{decode, encode};
-use crate::ledger::Ledger;
+use crate::ledger::{Ledger, Left};
 use crate::placement::{draw, picks, round, step, write_server};
 
 #[test]
@@ -275,6 +275,63 @@ fn image_at_the_end() {
         ..Table::start(2, 3).expect("in range")
     };
     assert_eq!(decode(&EXAMPLE_IMAGE[12..]), Ok(other.words()));
+}
+
+/// The example up to its second write, which has three burns: value, id and the mark of the first write.
+fn before_the_second_write() -> (Table, Vec<u32>) {
+    let mut table = Table::start(4, 0).expect("in range");
+    let mut medium = vec![BLANK; 36];
+    for (call, reply) in &example(0)[..6] {
+        assert_eq!(table.run(&mut medium, *call), *reply);
+    }
+    (table, medium)
+}
+
+#[test]
+fn burns_of_the_example() {
+    let id = known_id(0);
+    let (table, medium) = before_the_second_write();
+    let burns = [(1, 1_073_742_564), (0, id), (26, 2_147_483_649)];
+    for n in 0..=4 {
+        let mut expected = medium.clone();
+        for &(at, word) in burns.iter().take(n) {
+            expected[at] = word;
+        }
+        let mut left = table.clone();
+        let mut words = medium.clone();
+        let reply = left.run_some(&mut words, Call::write(id, 740), n as u32);
+        assert_eq!((reply.refusal, reply.server, reply.invalidated), (0, 0, 1));
+        assert_eq!(words, expected, "with {n} burns");
+        assert_eq!(left == table, n < 3);
+        left.recover(&words).expect("sound");
+        assert_eq!(left.used[..3], [u32::from(n > 0), 0, 1]);
+        let value = if n < 3 { 500 } else { 740 };
+        let met = if n < 3 { (2, 0) } else { (0, 0) };
+        assert_eq!(left.meets(&words, id), Some(met));
+        assert_eq!(left.run(&mut words, Call::lookup(id)).value, value);
+    }
+}
+
+#[test]
+fn crashes_of_the_example_on_the_ledger() {
+    let id = known_id(0);
+    let outcomes = [(false, false, 4), (true, false, 3), (true, true, 3)];
+    for (touched, shows, writes_left) in outcomes {
+        let mut ledger = Ledger::new(4, 0, 36);
+        for (call, _) in &example(0)[..6] {
+            ledger.enter(*call);
+        }
+        let write = Call::write(id, 740);
+        assert_eq!(ledger.target(write), Some((0, 0)));
+        ledger.crash(write, Left { touched, shows });
+        let value = if shows { 740 } else { 500 };
+        assert_eq!(ledger.enter(Call::lookup(id)).value, value);
+        assert_eq!(ledger.writes(), 2);
+        for _ in 0..writes_left {
+            assert_eq!(ledger.enter(write).refusal, 0);
+        }
+        assert_eq!(ledger.enter(write).refusal, 6);
+    }
 }
 
 #[test]

@@ -15,6 +15,22 @@ extern "C" {
         reply: *mut u32,
         reply_words: usize,
     ) -> u32;
+    fn archive_call_some(
+        table: *mut u32,
+        table_words: usize,
+        medium: *mut u32,
+        medium_words: usize,
+        call: *const u32,
+        call_words: usize,
+        reply: *mut u32,
+        reply_words: usize,
+    ) -> u32;
+    fn archive_recover(
+        table: *mut u32,
+        table_words: usize,
+        medium: *const u32,
+        medium_words: usize,
+    ) -> u32;
     fn archive_lookup_batch(
         table: *mut u32,
         table_words: usize,
@@ -105,6 +121,35 @@ pub fn call(table: &mut [u32], medium: &mut [u32], call: &[u32], reply: &mut [u3
             call.len(),
             reply.as_mut_ptr(),
             reply.len(),
+        )
+    }
+}
+
+/// Runs an encoded write or delete with the number of burns in its words, and no other call; answers
+/// its refusal number, or 0.
+pub fn call_some(table: &mut [u32], medium: &mut [u32], call: &[u32], reply: &mut [u32]) -> u32 {
+    unsafe {
+        archive_call_some(
+            table.as_mut_ptr(),
+            table.len(),
+            medium.as_mut_ptr(),
+            medium.len(),
+            call.as_ptr(),
+            call.len(),
+            reply.as_mut_ptr(),
+            reply.len(),
+        )
+    }
+}
+
+/// Sets the used of every server of a table from the medium; answers a refusal number, or 0.
+pub fn recover(table: &mut [u32], medium: &[u32]) -> u32 {
+    unsafe {
+        archive_recover(
+            table.as_mut_ptr(),
+            table.len(),
+            medium.as_ptr(),
+            medium.len(),
         )
     }
 }

@@ -24,6 +24,10 @@
 //!
 //! A table can be kept from one run of a program to the next, or carried with its medium, as an image: [`Archive::image`] writes
 //! it, and [`Archive::from_image`] goes on from it. Its words have tags, so that most damage to an image is told.
+//!
+//! A write or a delete that was cut off, as by a power failure, may have left some of its words on the medium. The table of
+//! before it is then lent again, and [`Archive::recover`] is called before any other call: the id shows its old answer or the new
+//! one, and every other id its own.
 
 pub mod functions;
 mod words;
@@ -151,6 +155,24 @@ fn told(number: u32) -> Result<(), Refusal> {
     }
 }
 
+/// The words of a call.
+fn encoded(number: u32, tenant: u32, subject: u32, amount: u32) -> [u32; CALL_WORDS] {
+    let mut words = [0; CALL_WORDS];
+    words[call::NUMBER] = number;
+    words[call::TENANT] = tenant;
+    words[call::SUBJECT] = subject;
+    words[call::AMOUNT] = amount;
+    words
+}
+
+fn written(reply: &[u32]) -> Result<Written, Refusal> {
+    told(reply[reply::REFUSAL])?;
+    Ok(Written {
+        server: reply[reply::SERVER],
+        invalidated: reply[reply::INVALIDATED],
+    })
+}
+
 fn looked_up(reply: &[u32]) -> Result<Found, Missed> {
     let opened = reply[reply::OPENED];
     match told(reply[reply::REFUSAL]) {
@@ -215,12 +237,15 @@ impl<'m> Archive<'m> {
     }
 
     fn run(&mut self, number: u32, tenant: u32, subject: u32, amount: u32) -> [u32; REPLY_WORDS] {
-        let mut words = [0; CALL_WORDS];
-        words[call::NUMBER] = number;
-        words[call::TENANT] = tenant;
-        words[call::SUBJECT] = subject;
-        words[call::AMOUNT] = amount;
-        self.call(&words)
+        self.call(&encoded(number, tenant, subject, amount))
+    }
+
+    /// The same for a write or a delete with a number of burns.
+    fn run_some(&mut self, mut call: [u32; CALL_WORDS], burns: u32) -> [u32; REPLY_WORDS] {
+        let mut reply = [0; REPLY_WORDS];
+        call[call::BURNS] = burns;
+        functions::call_some(&mut self.table, self.medium, &call, &mut reply);
+        reply
     }
 
     /// Adds a server; answers its number.
@@ -237,19 +262,39 @@ impl<'m> Archive<'m> {
 
     /// Writes the value of a tenant's id.
     pub fn write(&mut self, tenant: u32, id: u32, value: u32) -> Result<Written, Refusal> {
-        let reply = self.run(call::WRITE, tenant, id, value);
-        told(reply[reply::REFUSAL])?;
-        Ok(Written {
-            server: reply[reply::SERVER],
-            invalidated: reply[reply::INVALIDATED],
-        })
+        written(&self.run(call::WRITE, tenant, id, value))
+    }
+
+    /// Makes the first burns of a write, this many of them, as a writer that is cut off there would: the word of the value, that
+    /// of the id, then the marks of the entries that it replaces, the lowest server and on a server the lowest entry first. The
+    /// answer is that of [`Archive::write`]. Where a burn is left over the table is as it was; with none this is that call.
+    pub fn write_some(
+        &mut self,
+        tenant: u32,
+        id: u32,
+        value: u32,
+        burns: u32,
+    ) -> Result<Written, Refusal> {
+        let call = encoded(call::WRITE, tenant, id, value);
+        written(&self.run_some(call, burns))
     }
 
     /// Deletes a tenant's id; answers how many entries it invalidated.
     pub fn delete(&mut self, tenant: u32, id: u32) -> Result<u32, Refusal> {
-        let reply = self.run(call::DELETE, tenant, id, 0);
-        told(reply[reply::REFUSAL])?;
-        Ok(reply[reply::INVALIDATED])
+        Ok(written(&self.run(call::DELETE, tenant, id, 0))?.invalidated)
+    }
+
+    /// Makes the first burns of a delete, this many of its marks, the lowest server and on a server the lowest entry first. The
+    /// answer is that of [`Archive::delete`], and with no burn left over this is that call.
+    pub fn delete_some(&mut self, tenant: u32, id: u32, burns: u32) -> Result<u32, Refusal> {
+        let call = encoded(call::DELETE, tenant, id, 0);
+        Ok(written(&self.run_some(call, burns))?.invalidated)
+    }
+
+    /// Sets from the medium how many entries of each server are used: one past the last with a word that is not blank. To be
+    /// called before any other call where a write or a delete was cut off, on the table of before that call.
+    pub fn recover(&mut self) -> Result<(), Refusal> {
+        told(functions::recover(&mut self.table, self.medium))
     }
 
     /// Looks a tenant's id up, and counts the servers that it opened, found or not.

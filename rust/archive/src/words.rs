@@ -1,7 +1,7 @@
 //! Calls and replies as words, as include/archive.h has them.
 
 /// The version of the interface that this crate is written for; `functions::abi` answers the library's own.
-pub const ABI: u32 = 5;
+pub const ABI: u32 = 6;
 
 /// How many words a table has.
 pub const TABLE_WORDS: usize = 1035;
@@ -76,6 +76,7 @@ pub mod call {
     pub const TENANT: usize = 1;
     pub const SUBJECT: usize = 2;
     pub const AMOUNT: usize = 3;
+    pub const BURNS: usize = 6;
 }
 
 /// Which word of a reply is which.

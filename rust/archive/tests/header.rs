@@ -28,7 +28,7 @@ fn defined() -> Vec<(&'static str, u64)> {
 }
 
 /// The same by this crate, in the order of the header.
-const OURS: [(&str, u64); 43] = [
+const OURS: [(&str, u64); 44] = [
     ("ABI", ABI as u64),
     ("TABLE_WORDS", TABLE_WORDS as u64),
     ("CALL_WORDS", CALL_WORDS as u64),
@@ -51,6 +51,7 @@ const OURS: [(&str, u64); 43] = [
     ("CALL_TENANT", call::TENANT as u64),
     ("CALL_SUBJECT", call::SUBJECT as u64),
     ("CALL_AMOUNT", call::AMOUNT as u64),
+    ("CALL_BURNS", call::BURNS as u64),
     ("REPLY_REFUSAL", reply::REFUSAL as u64),
     ("REPLY_SERVER", reply::SERVER as u64),
     ("REPLY_VALUE", reply::VALUE as u64),
