@@ -29,6 +29,7 @@ fn run_case(table: Table, medium: &mut [u32], letter: u8, numbers: [u32; 8], tex
         numbers[0],
         numbers[1],
         numbers[2],
+        numbers[3],
         text,
     )
 }

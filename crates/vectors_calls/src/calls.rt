@@ -1,4 +1,5 @@
 // The calls on a table: each prints its reply and hands the table back.
+use crate::crashes;
 use crate::images;
 use crate::print;
 use limits::TENANTS;
@@ -113,7 +114,8 @@ fn set_counter(table: Table, tenant: u32, counter: u32) -> Table {
 }
 
 // A adds servers and prints no reply, V shows a word and O all of them, C shows a tenant's counter and T sets one from outside, R
-// reads a table from the words; the others are the day sheet's letters. The caller's tenant is the first number of L.
+// reads a table from the words, Z recovers and U shows a server's used; the others are the day sheet's letters. The caller's tenant
+// is the first number of L.
 fn run_reading(table: Table, medium: &[u32], letter: u8, a: u32, b: u32, text: &[u8]) -> Table {
     match letter {
         b'S' => return start_anew(a, b, text),
@@ -126,13 +128,16 @@ fn run_reading(table: Table, medium: &[u32], letter: u8, a: u32, b: u32, text: &
         b'T' => return set_counter(table, a, b),
         b'R' => return images::decode(medium, text),
         b'O' => print::print_words(text, medium),
+        b'Z' => return crashes::recover(table, medium, text),
+        b'U' => return crashes::show_used(table, a, text),
         _ => {}
     }
     table
 }
 
-// X is a write after which the older table is kept, P burns a word from outside, E encodes the table over the words; the others are
-// the day sheet's letters. The caller's tenant is the first number of W, X and D.
+// X is a write after which the older table is kept, P burns a word from outside, E encodes the table over the words, B is a write and
+// K a delete whose last number is a number of burns; the others are the day sheet's letters. The caller's tenant is the first number
+// of W, X, D, B and K.
 pub fn run_call(
     table: Table,
     medium: &mut [u32],
@@ -140,6 +145,7 @@ pub fn run_call(
     a: u32,
     b: u32,
     c: u32,
+    d: u32,
     text: &[u8],
 ) -> Table {
     match letter {
@@ -148,6 +154,8 @@ pub fn run_call(
         b'D' => delete(table, medium, a, b, text),
         b'P' => burn(table, medium, a, b),
         b'E' => images::encode(table, medium, text),
+        b'B' => crashes::write_some(table, medium, a, b, c, d, text),
+        b'K' => crashes::delete_some(table, medium, a, b, c, text),
         _ => run_reading(table, medium, letter, a, b, text),
     }
 }
