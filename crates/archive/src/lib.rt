@@ -1,1 +1,2 @@
 // What holds of all calls together; laws alone, in proofs/.
+#![tactic(auto)]

@@ -1,5 +1,7 @@
 // A batch: up to 256 ids looked up together, server by server from the highest down, each opened at most once for all the ids
 // that it is read for. The table counts for the tenant what single lookups would.
+#![tactic(auto)]
+
 ghost use Rattle.std.specs.Prelude.{◌≡◌};
 ghost use Rattle.table.specs.Parts.{table_of, Whole};
 ghost use Rattle.batch_answer.specs.Answer.{refused_batch};
@@ -11,7 +13,7 @@ use placement::Fraction;
 use table::{Columns, Shape, Table};
 
 // The answer to a batch, and the table after it.
-#[derive(Drop)]
+#[derive(Clone, Copy)]
 pub struct BatchLookedUp {
     pub batch: Batch,
     pub table: Table,

@@ -1,4 +1,6 @@
 // The answer to a batch of lookups, put together from plain numbers: it knows no table, no medium and no search.
+#![tactic(auto)]
+
 mod ordering;
 
 ghost use Rattle.std.specs.Prelude.{◌≡◌, ◌≤◌, eqb, length};
@@ -12,7 +14,7 @@ pub use ordering::order;
 // The answer to a batch of lookups. Refusal 0 is acceptance. `refusals`, `values` and `opened` have for each id, in the ids'
 // order, what its lookup answers, and `order` has the ids' positions in the order of finding; after that each array is 0.
 // `mounts` is the number of servers opened for all ids together.
-#[derive(Drop)]
+#[derive(Clone, Copy)]
 pub struct Batch {
     pub refusal: u32,
     pub mounts: usize,

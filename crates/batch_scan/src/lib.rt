@@ -1,5 +1,7 @@
 // One pass over the entries of a server for several ids at once: the newest entry of each. This crate knows the words of the medium
 // and nothing of tables, fractions or the parts of a batch.
+#![tactic(auto)]
+
 ghost use Rattle.std.specs.Prelude.{◌≡◌, ◌+◌, ◌*◌, ◌≤◌, length, eqb};
 ghost use Rattle.limits.specs.Limits.{max_ids, max_capacity};
 ghost use Rattle.lists.specs.Below.{nth, some_below, set_below};

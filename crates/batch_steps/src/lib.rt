@@ -1,4 +1,6 @@
 // A batch step by step: what one server makes of the part of one id, and of every id's part.
+#![tactic(auto)]
+
 ghost use Rattle.std.specs.Prelude.{◌≡◌, true, ℕ, ◌≤◌, ◌<◌, length};
 ghost use Rattle.limits.specs.Limits.{max_servers, max_ids};
 ghost use Rattle.lists.specs.Below.{nth, highest};
@@ -11,14 +13,14 @@ use placement::Fraction;
 use table::Shape;
 
 // The newest entry of an id on a server: the highest-numbered live one.
-#[derive(Drop)]
+#[derive(Clone, Copy)]
 enum Newest {
     Entry(usize),
     Nothing,
 }
 
 // How far the lookup of one id in a batch is: its number of each array of `Parts`.
-#[derive(Drop)]
+#[derive(Clone, Copy)]
 pub struct Progress {
     pub refusal: u32,
     pub value: u32,

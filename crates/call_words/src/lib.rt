@@ -1,4 +1,6 @@
 // One call on a table lent as words. Its columns are parts of the words, so that only add_server and reweight copy them.
+#![tactic(auto)]
+
 ghost use Rattle.std.specs.Prelude.{◌≡◌, true, ◌≢◌, ◌<◌, ◌≤◌, length};
 ghost use Rattle.limits.specs.Limits.{max_servers, max_capacity};
 ghost use Rattle.lists.specs.Below.{nth};

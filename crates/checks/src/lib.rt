@@ -1,4 +1,6 @@
 // The tests that write, delete, lookup and a batch of lookups share.
+#![tactic(auto)]
+
 ghost use Rattle.std.specs.Prelude.{◌≡◌};
 ghost use Rattle.table.specs.Parts.{table_of, Whole};
 ghost use Rattle.replies.specs.Refusal.{first_of};

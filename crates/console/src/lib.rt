@@ -1,5 +1,7 @@
 // This crate runs the sheet on standard input over 3,072 blank words and writes its output to standard output. Where reading fails,
 // nothing is run and one question mark is printed, since the bytes read may end in the middle of a line.
+#![tactic(auto)]
+
 ghost use Rattle.std.specs.Prelude.{◌≡◌, ◌*◌, ◌≤◌, length};
 ghost use Rattle.std.proofs.lemmas.List.Edits.{sets};
 ghost use Rattle.printing.specs.Print.{longest_line};

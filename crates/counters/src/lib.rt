@@ -1,4 +1,6 @@
 // The counters of opened servers, one for each tenant, on plain numbers: nothing here knows a table.
+#![tactic(auto)]
+
 ghost use Rattle.std.specs.Prelude.{◌≡◌, length};
 ghost use Rattle.limits.specs.Limits.{tenants};
 ghost use Rattle.counters.specs.Counter.{grown, counted, in_bounds};

@@ -1,4 +1,6 @@
 // Delete: every live entry of an id on every readable server is invalidated.
+#![tactic(auto)]
+
 ghost use Rattle.std.specs.Prelude.{◌≡◌, true};
 ghost use Rattle.draws.specs.Draw.{are_steps};
 ghost use Rattle.table.specs.Parts.{table_of, Whole};

@@ -1,4 +1,6 @@
 // One call, run by its number: add_server and reweight on a table by value, every other call on borrowed columns.
+#![tactic(auto)]
+
 ghost use Rattle.std.specs.Prelude.{◌≡◌, true, ◌≢◌, ℕ, ◌<◌, length};
 ghost use Rattle.limits.specs.Limits.{max_capacity};
 ghost use Rattle.lists.specs.Below.{nth};
@@ -15,7 +17,7 @@ use servers::Changed;
 use table::{Columns, Shape, Table};
 
 // A reply, and the table after the call.
-#[derive(Drop)]
+#[derive(Clone, Copy)]
 pub struct Ran {
     pub reply: Reply,
     pub table: Table,

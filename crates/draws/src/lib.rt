@@ -1,4 +1,6 @@
 // The draw of an id on a server: the server's step, the seed, and three rounds of xorshift. This crate knows no weights.
+#![tactic(auto)]
+
 mod constants;
 
 ghost use Rattle.std.specs.Prelude.{◌≡◌, ◌<◌, true, length};

@@ -1,5 +1,7 @@
 // The archive for other languages: numbers and runs of words, and no `requires`. include/archive.h says the same to a C
 // programmer. A run that is too short gets a number that no call gives, and then every run is left as lent.
+#![tactic(auto)]
+
 ghost use Rattle.std.specs.Prelude.{◌≡◌, length};
 ghost use Rattle.lists.specs.Below.{nth, set_below};
 ghost use Rattle.placement.specs.Rule.{write_server};

@@ -1,4 +1,6 @@
 // The words of calls and replies: how many fit, and a reply stored. specs/Encoding.antt says which word is which.
+#![tactic(auto)]
+
 ghost use Rattle.std.specs.Prelude.{◌≡◌, ◌<◌, ◌≤◌, ◌+◌, length};
 ghost use Rattle.encoding.specs.Encoding.{reply_length, room_for, with_reply_at};
 

@@ -1,4 +1,6 @@
 // Decode: a table, read from words that are all of an image.
+#![tactic(auto)]
+
 ghost use Rattle.std.specs.Prelude.{◌≡◌, ◌<◌, ◌≤◌, ◌+◌, length, set};
 ghost use Rattle.limits.specs.Limits.{max_servers, tenants};
 ghost use Rattle.lists.specs.Below.{all_below};
@@ -16,14 +18,14 @@ use replies::{Check, Refusal};
 use table::{Columns, Shape, Table};
 
 // The answer of decode and its table. An enum holds no array, so the table stands beside the answer.
-#[derive(Drop)]
+#[derive(Clone, Copy)]
 pub struct Decoded {
     pub answer: Check,
     pub table: Table,
 }
 
 // The columns of the servers that were read, and whether each of their words has its tag.
-#[derive(Drop)]
+#[derive(Clone, Copy)]
 struct ServersRead {
     tagged: bool,
     weights: Column,
@@ -33,14 +35,14 @@ struct ServersRead {
 }
 
 // The counters that were read, and whether each of their words has its tag.
-#[derive(Drop)]
+#[derive(Clone, Copy)]
 struct CountersRead {
     tagged: bool,
     counters: Counters,
 }
 
 // The table that was read, and whether each word has its tag.
-#[derive(Drop)]
+#[derive(Clone, Copy)]
 struct TableRead {
     tagged: bool,
     table: Table,

@@ -1,4 +1,6 @@
 // The image of a table lent as words, written and read.
+#![tactic(auto)]
+
 ghost use Rattle.std.specs.Prelude.{◌≡◌};
 ghost use Rattle.image_words.specs.ImageWords.{after_encode, decode_number, after_decode};
 

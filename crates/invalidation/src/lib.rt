@@ -1,4 +1,6 @@
 // The invalidations of a write and of a delete: a mark on each live entry of an id, server by server.
+#![tactic(auto)]
+
 ghost use Rattle.std.specs.Prelude.{◌≡◌, true, ◌<◌, length, take};
 ghost use Rattle.limits.specs.Limits.{content_range};
 ghost use Rattle.lists.specs.Below.{nth};

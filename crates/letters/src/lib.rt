@@ -1,4 +1,6 @@
 // The letters of lines. Reading and printing both go by the one table here.
+#![tactic(auto)]
+
 ghost use Rattle.std.specs.Prelude.{◌≡◌};
 ghost use Rattle.letters.specs.Letter.{letter_of, number_for};
 

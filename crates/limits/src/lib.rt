@@ -1,4 +1,5 @@
 // The limits of an archive, each named once. The definitions of specs/ have the same names and numbers.
+#![tactic(auto)]
 
 // Servers of a table, and so the numbers in each of its columns.
 pub const MAX_SERVERS: usize = 256;

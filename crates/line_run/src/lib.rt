@@ -1,4 +1,6 @@
 // Running one line. Its answer goes to the lent buffer, from a position on.
+#![tactic(auto)]
+
 ghost use Rattle.std.specs.Prelude.{◌≡◌, ◌+◌, ◌≤◌, length};
 ghost use Rattle.std.proofs.lemmas.List.Edits.{sets};
 ghost use Rattle.parsing.specs.Line.{line_of};

@@ -1,5 +1,7 @@
 // What the other crates need of numbers and lists in general: words copied into an array, and the lesser of two numbers. The
 // definitions over the numbers below a bound are in specs/, and their laws in proofs/.
+#![tactic(auto)]
+
 ghost use Rattle.std.specs.Prelude.{◌≡◌, ◌≤◌, ◌+◌, min, length};
 ghost use Rattle.limits.specs.Limits.{max_servers};
 ghost use Rattle.lists.specs.Array.{array_at};

@@ -1,4 +1,6 @@
 // Lookup: the value of an id, or why there is none, and how many servers were opened, which the table counts for the tenant.
+#![tactic(auto)]
+
 ghost use Rattle.std.specs.Prelude.{◌≡◌, true, ◌<◌};
 ghost use Rattle.std.proofs.Math.Option.{some};
 ghost use Rattle.draws.specs.Draw.{are_steps};
@@ -12,7 +14,7 @@ use search::SearchAnswer;
 use table::{Columns, Shape, Table};
 
 // The answer of lookup, and the table after it.
-#[derive(Drop)]
+#[derive(Clone, Copy)]
 pub struct LookedUp {
     pub answer: LookupAnswer,
     pub table: Table,

@@ -1,4 +1,6 @@
 // The marks on one server: burned on the entries that bear an id, the lowest first, blocks without the id's word passed over.
+#![tactic(auto)]
+
 ghost use Rattle.std.specs.Prelude.{◌≡◌, ◌<◌, ◌≤◌, ◌+◌, ◌-◌, ◌*◌, length, take};
 ghost use Rattle.limits.specs.Limits.{max_capacity, max_sum, content_range};
 ghost use Rattle.medium.specs.Entry.{entry_words, Inside};

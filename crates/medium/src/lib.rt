@@ -1,5 +1,7 @@
 // The words of the write-once medium: where an entry stands, whether it bears an id, whether words are blank, and the marks
 // that invalidate an id's entries on one server.
+#![tactic(auto)]
+
 ghost use Rattle.std.specs.Prelude.{◌≡◌, ◌<◌, ◌≤◌, ◌+◌, ◌-◌, length, take};
 ghost use Rattle.limits.specs.Limits.{max_servers, max_capacity, max_sum, content_range};
 ghost use Rattle.medium.specs.Entry.{mark_place, server_at, entry_at, bears_at, blank_run, Inside};

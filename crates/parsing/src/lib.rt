@@ -1,4 +1,6 @@
 // Reading numbers, the line that a letter and its numbers make, and the ends of lines.
+#![tactic(auto)]
+
 ghost use Rattle.std.specs.Prelude.{◌≡◌, ◌≤◌, length};
 ghost use Rattle.parsing.specs.Line.{parsed_of, number_at, spaced, line_by, has_two, end_of};
 
@@ -6,7 +8,7 @@ use letters::{START, number_for};
 use replies::{ADD_SERVER, REWEIGHT, WRITE};
 
 // A number and the position after it, or nothing that reads as one.
-#[derive(Drop)]
+#[derive(Clone, Copy)]
 pub enum Parsed {
     Number(u32, usize),
     Nothing,
@@ -14,7 +16,7 @@ pub enum Parsed {
 
 // What a line asks for: a start and its capacity; a call by its number, with its subject (an id or a server) and its amount
 // (a value or a weight); or a line that can't be read so.
-#[derive(Drop)]
+#[derive(Clone, Copy)]
 pub enum Line {
     Start(u32),
     Call(u32, u32, u32),

@@ -1,5 +1,7 @@
 // The write servers of many ids over the same weights and under the same salt. What does not depend on the id is worked out once: a
 // limit for each server, the greatest draw by which it takes. Then the draws of an id are compared a block of servers at a time.
+#![tactic(auto)]
+
 ghost use Rattle.std.specs.Prelude.{◌≡◌, true, ◌+◌, ◌≤◌, ◌<◌, length};
 ghost use Rattle.lists.specs.Below.{nth, some_below, highest, or_zero, set_below};
 ghost use Rattle.draws.specs.Draw.{are_steps};

@@ -1,5 +1,7 @@
 // The published rule on plain numbers: the comparison of a fraction with a draw, WriteP, and the write server of an id. This
 // crate knows no table and no medium.
+#![tactic(auto)]
+
 ghost use Rattle.std.specs.Prelude.{◌≡◌, true, ◌&&◌, ℕ, ◌<◌, leb, ltb};
 ghost use Rattle.limits.specs.Limits.{max_servers};
 ghost use Rattle.lists.specs.Below.{nth, total};
@@ -8,7 +10,7 @@ ghost use Rattle.placement.specs.Fraction.{exceeds, at_least};
 ghost use Rattle.placement.specs.Rule.{share_of, write_server, Bounded};
 
 // A fraction as document 01 keeps it: a pair, not reduced.
-#[derive(Drop)]
+#[derive(Clone, Copy)]
 pub struct Fraction {
     pub num: u32,
     pub den: u32,

@@ -1,4 +1,6 @@
 // The tests before a write, in the order of its rows, and the server that it goes to.
+#![tactic(auto)]
+
 ghost use Rattle.std.specs.Prelude.{◌≡◌, true};
 ghost use Rattle.draws.specs.Draw.{are_steps};
 ghost use Rattle.table.specs.Parts.{table_of, Whole};
@@ -11,7 +13,7 @@ use replies::{Check, Refusal};
 use table::{Columns, Shape};
 
 // What the tests before a write say: the server that it goes to, or the refusal.
-#[derive(Drop)]
+#[derive(Clone, Copy)]
 pub enum Plan {
     To(usize),
     Refused(Refusal),

@@ -1,4 +1,6 @@
 // Printing into a lent buffer: each function puts its bytes at a position and answers the position after them.
+#![tactic(auto)]
+
 ghost use Rattle.std.specs.Prelude.{◌≡◌, ◌<◌, ◌≤◌, ◌+◌, length};
 ghost use Rattle.std.proofs.lemmas.List.Edits.{sets};
 ghost use Rattle.printing.specs.Print.{longest_line, decimal, printed, question, answered};

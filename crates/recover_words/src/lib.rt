@@ -1,4 +1,6 @@
 // Recover on a table lent as words. Its columns are parts of the words, and the column of the entries used alone is stored.
+#![tactic(auto)]
+
 ghost use Rattle.std.specs.Prelude.{◌≡◌, true, ◌≤◌, length};
 ghost use Rattle.medium.specs.Entry.{server_at};
 ghost use Rattle.table.specs.Sound.{sound};

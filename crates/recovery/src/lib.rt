@@ -1,4 +1,6 @@
 // Recover: every server's used from the words of the medium.
+#![tactic(auto)]
+
 ghost use Rattle.std.specs.Prelude.{◌≡◌, ◌≤◌, length};
 ghost use Rattle.limits.specs.Limits.{max_servers, max_capacity};
 ghost use Rattle.lists.specs.Below.{set_below};
@@ -14,7 +16,7 @@ use replies::{Check, Refusal};
 use table::{Columns, Shape, Table};
 
 // The answer of recover, and the table after it.
-#[derive(Drop)]
+#[derive(Clone, Copy)]
 pub struct Recovered {
     pub answer: Check,
     pub table: Table,

@@ -1,5 +1,7 @@
 // This crate runs encoded lists of calls: on a started table, where the replies are the plain ledger's if the words are blank,
 // and on a table lent as words.
+#![tactic(auto)]
+
 ghost use Rattle.std.specs.Prelude.{◌≡◌, true, ◌≤◌, ◌*◌, length};
 ghost use Rattle.draws.specs.Draw.{are_steps};
 ghost use Rattle.table_words.specs.Words.{table_length, with_table};

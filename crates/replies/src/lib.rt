@@ -1,4 +1,6 @@
 // Why a call is refused and what each call answers, both as enums and in document 01's numbers, and the number of each call.
+#![tactic(auto)]
+
 mod numbers;
 
 pub use numbers::{
@@ -18,7 +20,7 @@ pub const LOOKUP: u32 = 5;
 
 // Why a call is refused: a case for each number, in their order from 1 to 13. 1 to 10 are document 01's, the others
 // document 02's.
-#[derive(Drop)]
+#[derive(Clone, Copy)]
 pub enum Refusal {
     // 1, foreign table: the table is not sound.
     UnsoundTable,
@@ -49,42 +51,42 @@ pub enum Refusal {
 }
 
 // What the tests before a call say, and the answer of start.
-#[derive(Drop)]
+#[derive(Clone, Copy)]
 pub enum Check {
     Accepted,
     Refused(Refusal),
 }
 
 // The answer of add_server and reweight: the server's number.
-#[derive(Drop)]
+#[derive(Clone, Copy)]
 pub enum ServerAnswer {
     Server(usize),
     Refused(Refusal),
 }
 
 // The answer of write: the server, and how many earlier entries it invalidated.
-#[derive(Drop)]
+#[derive(Clone, Copy)]
 pub enum WriteAnswer {
     Written(usize, usize),
     Refused(Refusal),
 }
 
 // The answer of delete: how many entries it invalidated.
-#[derive(Drop)]
+#[derive(Clone, Copy)]
 pub enum DeleteAnswer {
     Deleted(usize),
     Refused(Refusal),
 }
 
 // The answer of lookup: the value, or the refusal; and how many servers it opened.
-#[derive(Drop)]
+#[derive(Clone, Copy)]
 pub enum LookupAnswer {
     Found(u32, usize),
     Refused(Refusal, usize),
 }
 
 // A reply in document 01's numbers. Refusal 0 is acceptance; what an answer does not carry is 0.
-#[derive(Drop)]
+#[derive(Clone, Copy)]
 pub struct Reply {
     pub refusal: u32,
     pub server: usize,

@@ -1,5 +1,7 @@
 // A server's entries by blocks: whether a block may bear an id, and the blocks that a search from the highest entry down may pass
 // over.
+#![tactic(auto)]
+
 ghost use Rattle.std.specs.Prelude.{◌≡◌, ◌<◌, ◌≤◌, ◌+◌, ◌*◌, length, eqb};
 ghost use Rattle.lists.specs.Below.{nth, some_below, highest};
 ghost use Rattle.medium.specs.Word.{id_word};

@@ -1,5 +1,7 @@
 // The search of a lookup: over the servers from the highest down, and on each over its entries downward, blocks that do not bear the
 // id passed over.
+#![tactic(auto)]
+
 ghost use Rattle.std.specs.Prelude.{◌≡◌, true};
 ghost use Rattle.lists.specs.Below.{nth};
 ghost use Rattle.draws.specs.Draw.{are_steps};
@@ -11,7 +13,7 @@ use placement::Fraction;
 use table::{Columns, Shape};
 
 // What a search meets: the server and the entry there, or nothing; and how many servers it opened.
-#[derive(Drop)]
+#[derive(Clone, Copy)]
 pub enum SearchAnswer {
     At(usize, usize, usize),
     Nowhere(usize),

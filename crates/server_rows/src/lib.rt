@@ -1,5 +1,7 @@
 // The tests before start, add_server and reweight, in the order of document 01's numbers. They borrow the table's columns, so
 // that none is copied.
+#![tactic(auto)]
+
 ghost use Rattle.std.specs.Prelude.{◌≡◌};
 ghost use Rattle.table.specs.Parts.{table_of, Whole};
 ghost use Rattle.replies.specs.Refusal.{first_of};

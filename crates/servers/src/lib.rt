@@ -1,4 +1,6 @@
 // Start, and the calls that change the servers: add_server, document 01's fit, and reweight, its weigh.
+#![tactic(auto)]
+
 ghost use Rattle.std.specs.Prelude.{◌≡◌};
 ghost use Rattle.replies.specs.Reply.{reply_of_check, reply_of_server};
 ghost use Rattle.servers.specs.Servers.{start_reply, start_table, add_server_reply, add_server_table, reweight_reply, reweight_table};
@@ -7,14 +9,14 @@ use replies::{Check, ServerAnswer};
 use table::{Columns, Shape, Table};
 
 // The answer of start and its table. An enum holds no array, so the table stands beside the answer.
-#[derive(Drop)]
+#[derive(Clone, Copy)]
 pub struct Started {
     pub answer: Check,
     pub table: Table,
 }
 
 // The answer of add_server or reweight, and the table after it.
-#[derive(Drop)]
+#[derive(Clone, Copy)]
 pub struct Changed {
     pub answer: ServerAnswer,
     pub table: Table,

@@ -1,4 +1,6 @@
 // A whole sheet: lines read, calls run, answers printed, over slices alone.
+#![tactic(auto)]
+
 ghost use Rattle.std.specs.Prelude.{◌≡◌, ◌≤◌, length};
 ghost use Rattle.std.proofs.lemmas.List.Edits.{sets};
 ghost use Rattle.sheet.specs.Sheet.{output_of, output_room};

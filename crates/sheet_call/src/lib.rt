@@ -1,5 +1,7 @@
 // A call on a sheet, by its number, on the table in use. Before the first accepted S it gets a question mark. What it prints goes to
 // the lent buffer, from a position on.
+#![tactic(auto)]
+
 ghost use Rattle.std.specs.Prelude.{◌≡◌, ◌+◌, ◌<◌, ◌≤◌, length};
 ghost use Rattle.std.proofs.lemmas.List.Edits.{sets};
 ghost use Rattle.limits.specs.Limits.{max_capacity};

@@ -1,4 +1,6 @@
 // 65,537 bytes: one more than a sheet may have.
+#![tactic(auto)]
+
 fn main() {
     console::run();
 }

@@ -1,5 +1,7 @@
 // A start on a sheet. One that is accepted puts an empty table in use and blanks the words; one that is refused keeps both. Its
 // answer goes to the lent buffer, from a position on.
+#![tactic(auto)]
+
 ghost use Rattle.std.specs.Prelude.{◌≡◌, ◌+◌, ◌≤◌, length, replicate};
 ghost use Rattle.std.proofs.lemmas.List.Edits.{sets};
 ghost use Rattle.medium.specs.Word.{blank};
@@ -12,14 +14,14 @@ use table::Table;
 const SALT: u32 = 0;
 
 // The table in use, once a start was accepted; before that the table counts for nothing.
-#[derive(Drop)]
+#[derive(Clone, Copy)]
 pub struct InUse {
     pub started: bool,
     pub table: Table,
 }
 
 // The position after what a line printed, and the table in use after it.
-#[derive(Drop)]
+#[derive(Clone, Copy)]
 pub struct AfterLine {
     pub next: usize,
     pub in_use: InUse,

@@ -1,4 +1,6 @@
 // A write or a delete with a number of burns, on a table lent as words.
+#![tactic(auto)]
+
 ghost use Rattle.std.specs.Prelude.{◌≡◌, true, ◌≤◌, length};
 ghost use Rattle.draws.specs.Draw.{are_steps};
 ghost use Rattle.table_words.specs.Words.{table_length, with_table};

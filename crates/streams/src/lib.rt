@@ -1,5 +1,7 @@
 // This crate reads standard input whole and writes standard output whole. A signal is no error, and neither is a short read or a
 // short write.
+#![tactic(auto)]
+
 ghost use Rattle.std.specs.Prelude.{◌≤◌, ◌-◌, ◌≡◌, length, take};
 ghost use Rattle.streams.specs.Stream.{AtMost};
 
@@ -9,7 +11,7 @@ use libc::{EINTR, STDIN_FILENO, STDOUT_FILENO};
 const TRIES: usize = 65536;
 
 // A read gave so many bytes at the start of the buffer, or it failed.
-#[derive(Drop)]
+#[derive(Clone, Copy)]
 pub enum Read {
     Bytes(usize),
     Failed,

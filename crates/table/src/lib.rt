@@ -1,4 +1,6 @@
 // The table of servers, by value: an empty one, and whether one is sound.
+#![tactic(auto)]
+
 ghost use Rattle.std.specs.Prelude.{◌≡◌, true, cond, ◌≤◌, length, leb, ltb};
 ghost use Rattle.lists.specs.Below.{nth};
 ghost use Rattle.table.specs.Parts.{table_of, Whole, empty};
@@ -10,7 +12,7 @@ use placement::Fraction;
 // Document 01's table: capacity is its E, the entries of a server; salt document 02's rack key; count the count of fitted shelves;
 // four arrays have for each server its weight, the entries used, and ReadP as a pair, and their positions at or above the count
 // mean nothing; the counters have for each tenant the servers that its lookups opened.
-#[derive(Drop)]
+#[derive(Clone, Copy)]
 pub struct Table {
     pub capacity: u32,
     pub salt: u32,
@@ -27,7 +29,7 @@ pub struct Table {
 pub type Columns<'a> = [&'a [u32]; 5];
 
 // The numbers that a table has once, and not for each server or tenant.
-#[derive(Drop)]
+#[derive(Clone, Copy)]
 pub struct Shape {
     pub capacity: u32,
     pub salt: u32,

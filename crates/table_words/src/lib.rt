@@ -1,4 +1,6 @@
 // A table lent as words: read out of them, and stored in front of them. specs/Words.antt has the layout.
+#![tactic(auto)]
+
 ghost use Rattle.std.specs.Prelude.{◌≡◌, ◌<◌, ◌≤◌, ◌+◌, length};
 ghost use Rattle.std.proofs.Math.Seq.{paste};
 ghost use Rattle.table.specs.Parts.{table_of, Whole};

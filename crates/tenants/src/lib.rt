@@ -1,4 +1,6 @@
 // Tenants, the paper's clubs: whose an id is, and what a call's tenant and id are tested for.
+#![tactic(auto)]
+
 ghost use Rattle.std.specs.Prelude.{◌≡◌};
 ghost use Rattle.tenants.specs.Tenant.{tenant_of, out_of_range, of_another};
 

@@ -1,4 +1,6 @@
 // The tables that calls make of a table: one server more, another weight, one entry more used, servers opened for a tenant.
+#![tactic(auto)]
+
 ghost use Rattle.std.specs.Prelude.{◌≡◌, true, ◌<◌, ◌≤◌, length};
 ghost use Rattle.limits.specs.Limits.{max_servers, max_capacity};
 ghost use Rattle.lists.specs.Below.{nth};

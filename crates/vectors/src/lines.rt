@@ -1,7 +1,7 @@
 // The lines of the cases: where a line's call begins, its letter, its numbers, and where the next line begins.
 ghost use Rattle.std.specs.Prelude.{◌<◌, ◌≤◌, length};
 
-#[derive(Drop)]
+#[derive(Clone, Copy)]
 pub struct Case {
     pub call: usize,
     pub next: usize,

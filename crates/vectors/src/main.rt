@@ -4,6 +4,8 @@
 // A case is a line: a text, a bar, a letter and numbers. The letter names the call and the numbers are its arguments. The text
 // is printed with what the call answers; a call with no text is run and prints nothing. A call's answer is its refusal number,
 // server, value, opened count and number of invalidated entries. No call has the letter `;`: such a line is a comment.
+#![tactic(auto)]
+
 ghost use Rattle.std.specs.Prelude.{◌≡◌, length};
 
 mod batches;

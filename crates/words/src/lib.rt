@@ -1,4 +1,6 @@
 // A 32-bit word, of the medium and of a table's image alike: its tag, its content, and the word of both.
+#![tactic(auto)]
+
 ghost use Rattle.std.specs.Prelude.{◌≡◌, ◌<◌};
 ghost use Rattle.limits.specs.Limits.{content_range};
 ghost use Rattle.words.specs.Word.{tag_of, content_of, tagged};

@@ -1,4 +1,6 @@
 // Write: a value and its id go to the write server, and earlier entries of the id are invalidated.
+#![tactic(auto)]
+
 ghost use Rattle.std.specs.Prelude.{◌≡◌, true, [], ◌∷◌, ◌<◌, ◌+◌, ◌-◌, length, take, leb};
 ghost use Rattle.limits.specs.Limits.{content_range};
 ghost use Rattle.draws.specs.Draw.{are_steps};
@@ -14,7 +16,7 @@ use planning::Plan;
 use replies::WriteAnswer;
 use table::{Columns, Shape, Table};
 
-#[derive(Drop)]
+#[derive(Clone, Copy)]
 pub struct Written {
     pub answer: WriteAnswer,
     pub table: Table,

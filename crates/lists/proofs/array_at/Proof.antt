@@ -9,48 +9,48 @@ use Rattle.lists.proofs.Arrays.{array_at-none, array_at-more}
 use Rattle.lists.proofs.array_at.Statement.{statement}
 use Rattle.lists.proofs.array_at.Tie as tie
 
-abbrev invariant-loop : tie.invariant-loop
+abbrev invariant-loop : tie.invariant-loop-i
 invariant-loop words from n array₀ i₀ array i = (i ≤ n) × (array ≡ array_at max_servers words from i)
 
-abbrev decreases-loop : tie.decreases-loop
+abbrev decreases-loop : tie.decreases-loop-i
 decreases-loop words from n array₀ i₀ array i = n - i
 
-loop-holds : tie.Need-loop-init invariant-loop decreases-loop
+loop-holds : tie.Need-loop-i-init invariant-loop decreases-loop
 loop-holds c = (search rules, array_at-none max_servers _ _)
 
-add-array : tie.Need-overflow-add-array invariant-loop decreases-loop
+add-array : tie.Need-overflow_add-array invariant-loop decreases-loop
 add-array c = search rules
 
-mul-array : tie.Need-overflow-mul-array invariant-loop decreases-loop
+mul-array : tie.Need-offset_bounds-words-from invariant-loop decreases-loop
 mul-array c = search rules
 
-shared-slice-read-array : tie.Need-shared-slice-read-array invariant-loop decreases-loop
+shared-slice-read-array : tie.Need-bounds-words-from invariant-loop decreases-loop
 shared-slice-read-array c = search rules
 
-mul-array-2 : tie.Need-overflow-mul-array-2 invariant-loop decreases-loop
+mul-array-2 : tie.Need-offset_bounds-array-i invariant-loop decreases-loop
 mul-array-2 c = search rules
 
-array-write-array : tie.Need-array-write-array invariant-loop decreases-loop
+array-write-array : tie.Need-bounds-array-i invariant-loop decreases-loop
 array-write-array c = search rules
 
-add-i : tie.Need-overflow-add-i invariant-loop decreases-loop
+add-i : tie.Need-overflow_add-i invariant-loop decreases-loop
 add-i c = search rules
 
-loop-less : tie.Need-loop-smaller invariant-loop decreases-loop
+loop-less : tie.Need-loop-i-smaller invariant-loop decreases-loop
 loop-less c = search rules
 
-loop-again : tie.Need-loop-preserved invariant-loop decreases-loop
+loop-again : tie.Need-loop-i-preserved invariant-loop decreases-loop
 loop-again c =
     let l = c.before.before in
-    (search rules, rw l.loop.invariant.1 (array_at-more max_servers _ _ l.loop.i (search rules) (search rules)))
+    (search rules, rw l.loop-i.invariant.1 (array_at-more max_servers _ _ l.loop-i.i (search rules) (search rules)))
 
 returns : tie.Need-returns invariant-loop decreases-loop
 returns c =
-    let e : c.before.loop.i ≡ c.before.before.args.n = omega arith in
-    rw (← e) c.before.loop.invariant.1
+    let e : c.before.loop-i.i ≡ c.before.before.args.n = omega arith in
+    rw (← e) c.before.loop-i.invariant.1
 
-pub array-at-spec : {M : Type 1} → statement M
-array-at-spec =
+pub array_at_spec : {M : Type 1} → statement M
+array_at_spec =
     tie.close
     (tie.spec
     invariant-loop
