@@ -120,7 +120,7 @@ module _ {capacity count : ℕ} {rule : ℕ → ℕ → Bool} {events : List Eve
 
   -- the mark of an entry that was to go
   burn-of : (k j : ℕ) → k < count → j < capacity → p k ≡ true → bears capacity m id k j ≡ true → Memᴰ (mark_burn content (mark_at capacity k j)) burns
-  burn-of k j l i q b = burn-in content marks (mark_at capacity k j) (marks-in capacity (used_by events) m id p count k j l q (live-there k j l i b))
+  burn-of k j l i q b = burn-in content (mark_at capacity k j) marks (marks-in capacity (used_by events) m id p count k j l q (live-there k j l i b))
 
   -- with no burn left over all are gone
   pub all-gone : length burns ≤ n → Gone capacity count m id p N

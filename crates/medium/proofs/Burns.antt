@@ -93,10 +93,10 @@ module _ (content : ℕ) where
       go ih (inl e) = ap (λ (z : Burn). z.word) e
       go ih (inr e) = ih e
 
-  pub burn-in : (xs : List ℕ) (a : ℕ) → Memᴰ a xs → Memᴰ (mark_burn a) (invalidations content xs)
+  pub burn-in : (a : ℕ) (xs : List ℕ) → Memᴰ a xs → Memᴰ (mark_burn a) (invalidations content xs)
   unfolding invalidations
-  burn-in xs a (Memᴰ.head {x = x} {xs = r} e) = Memᴰ.head (ap mark_burn e)
-  burn-in xs a (Memᴰ.tail {x = x} {xs = r} d) = Memᴰ.tail (burn-in r a d)
+  burn-in a xs (Memᴰ.head {x = x} {xs = r} e) = Memᴰ.head (ap mark_burn e)
+  burn-in a xs (Memᴰ.tail {x = x} {xs = r} d) = Memᴰ.tail (burn-in a r d)
 
   -- a word whose address is not in the list is as before
   pub invalidations-off : (m xs : List ℕ) (a : ℕ) → (Memᴰ a xs → ⊥) → nth (burn_all m (invalidations content xs)) a ≡ nth m a
@@ -114,8 +114,8 @@ module _ (content : ℕ) where
       (λ d. get_or-set_other m x a (mark_word content) 0 (eqb-false a x d) ∙ h))
 
   -- a word of the medium whose address is in the list is a mark
-  pub invalidations-on : (m xs : List ℕ) (a : ℕ) → a < length m → Memᴰ a xs → nth (burn_all m (invalidations content xs)) a ≡ mark_word content
+  pub invalidations-on : (a : ℕ) (m xs : List ℕ) → a < length m → Memᴰ a xs → nth (burn_all m (invalidations content xs)) a ≡ mark_word content
   unfolding burn_all invalidations
-  invalidations-on m xs a l (Memᴰ.head {x = x} {xs = r} e) =
+  invalidations-on a m xs l (Memᴰ.head {x = x} {xs = r} e) =
       mark-stays (set m x (mark_word content)) r a (rw length-set l) (rw e (get_or-set_same m x (mark_word content) 0 (omega arith)))
-  invalidations-on m xs a l (Memᴰ.tail {x = x} {xs = r} d) = invalidations-on (set m x (mark_word content)) r a (rw length-set l) d
+  invalidations-on a m xs l (Memᴰ.tail {x = x} {xs = r} d) = invalidations-on a (set m x (mark_word content)) r (rw length-set l) d

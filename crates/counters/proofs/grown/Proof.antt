@@ -9,16 +9,16 @@ returns : tie.Need-returns
 unfolding grown
 returns c = omega arith
 
-sub-room : tie.Need-overflow_sub-room
+sub-room : tie.Need-overflow-sub-room
 sub-room c = search rules
 
 cast-if2 : tie.Need-overflow-cast-if2
 cast-if2 c = search rules
 
-cast-result : tie.Need-overflow_cast-result
+cast-result : tie.Need-overflow-cast-result
 cast-result c = search rules
 
-add-result : tie.Need-overflow_add-result
+add-result : tie.Need-overflow-add-result
 add-result c = search rules
 
 returns-2 : tie.Need-returns-2

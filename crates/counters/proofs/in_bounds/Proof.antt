@@ -29,7 +29,7 @@ mul-within c = search rules
 shared-slice-read-within : tie.Need-shared-slice-read-within invariant-loop decreases-loop
 shared-slice-read-within c = search rules
 
-add-i : tie.Need-overflow_add-i invariant-loop decreases-loop
+add-i : tie.Need-overflow-add-i invariant-loop decreases-loop
 add-i c = search rules
 
 loop-less : tie.Need-loop-smaller invariant-loop decreases-loop

@@ -1,0 +1,24 @@
+-- `medium::is_blank` meets its contract. The invariant: the words passed are blank.
+use Prim.Native.Nat.{◌≤◌, ◌-◌}
+use mathlib.Core.Path.{◌≡◌, refl, sym}
+use mathlib.Core.Bool.{true}
+use native.Mathlib.Omega.{arith}
+use borrow.Author.Rules.{rules}
+use Rattle.lists.specs.Below.{all_below}
+use Rattle.medium.specs.Entry.{blank_run}
+use Rattle.medium.proofs.Entries.{blank-not, blank-more}
+use Rattle.medium.proofs.is_blank.Goals as goal
+
+pub loop-i-init : goal.loop-i-init
+unfolding blank_run all_below
+loop-i-init c = (search rules, refl)
+
+pub returns-then-medium-from : goal.returns-then-medium-from
+returns-then-medium-from c =
+    let a = c.args in
+    sym (blank-not a.medium.now a.from a.n c.loop-i.i (search rules) c.if-medium-from.true)
+
+pub loop-i-preserved : goal.loop-i-preserved
+loop-i-preserved c =
+    let a = c.args in
+    (search rules, blank-more a.medium.now a.from c.loop-i.i c.loop-i.invariant.1 c.if-medium-from.false)
