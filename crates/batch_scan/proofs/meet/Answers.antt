@@ -1,0 +1,19 @@
+-- `batch_scan::meet` meets its contract. The invariant: the numbers of the ids passed are those that it ensures, and the rest as before.
+use Prim.Native.Nat.{◌-◌, ◌≤◌}
+use mathlib.Core.Path.{◌≡◌, refl}
+use native.Mathlib.Omega.{arith}
+use lib.Dec.{eqb}
+use borrow.Author.Rules.{rules}
+use Rattle.lists.specs.Below.{nth, set_below}
+use Rattle.batch_scan.specs.Scan.{met_by}
+use Rattle.batch_scan.proofs.Passing.{meet-more}
+use Rattle.batch_scan.proofs.meet.Goals as goal
+
+pub loop-i-init : goal.loop-i-init
+unfolding set_below
+loop-i-init c = (search rules, refl)
+
+pub loop-i-preserved : goal.loop-i-preserved
+loop-i-preserved c =
+    let a = c.args in
+    (search rules, meet-more a.word a.entry a.ids.now a.newest.now c.loop-i.newest c.loop-i.i c.meet_one.result c.loop-i.invariant.1 c.meet_one.ensures)

@@ -1,0 +1,16 @@
+-- `batch_scan::newest_of` meets its contract: all entries are passed, with no entry met before.
+use native.Mathlib.Omega.{arith}
+use borrow.Author.Rules.{rules}
+use Rattle.lists.proofs.Below.{nth-zeros}
+use Rattle.medium.proofs.Places.{server-next}
+use Rattle.batch_scan.proofs.Passing.{newest-all}
+use Rattle.batch_scan.proofs.newest_of.Goals as goal
+
+pub pass_all-requires-clause-used_in_bounds : goal.pass_all-requires-clause-used_in_bounds
+pass_all-requires-clause-used_in_bounds c =
+    omega (arith, c.server_at-base.ensures, server-next c.args.capacity c.args.server)
+
+pub returns : goal.returns
+returns c =
+    let a = c.args in
+    newest-all a.capacity a.used a.medium.now a.ids.now a.server a.n c.server_at-base.result _ c.pass_all.new.newest c.server_at-base.ensures (nth-zeros 256) c.pass_all.ensures

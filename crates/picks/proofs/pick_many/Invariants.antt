@@ -1,0 +1,17 @@
+-- `picks::pick_many` meets its contract. The invariant: the write servers of the ids passed are stored.
+use Prim.Native.Nat.{◌-◌, ◌≤◌}
+use mathlib.Core.Path.{◌≡◌, refl}
+use native.Mathlib.Omega.{arith}
+use lib.ListN.{length, length-set}
+use borrow.Author.Rules.{rules}
+use Rattle.lists.specs.Below.{set_below}
+use Rattle.lists.proofs.Below.{set_below-more}
+use Rattle.picks.proofs.Picking.{server_of, picked-small}
+use Rattle.picks.proofs.pick_many.Given as goal
+
+abbrev pub invariant-loop-i : goal.invariant-loop-i
+invariant-loop-i l =
+    (l.i ≤ l.n) × (l.servers ≡ set_below (server_of l.weights l.salt l.ids) l.i l.initial.servers) × (length l.servers ≡ length l.initial.servers)
+
+abbrev pub decreases-loop-i : goal.decreases-loop-i
+decreases-loop-i l = l.n - l.i

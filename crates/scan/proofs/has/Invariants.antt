@@ -1,0 +1,16 @@
+-- `scan::has` meets its contract. The invariant: whether a word passed is the id's.
+use Prim.Native.Nat.{◌+◌, ◌-◌, ◌≤◌}
+use mathlib.Core.Path.{◌≡◌, refl}
+use native.Mathlib.Omega.{arith}
+use lib.Dec.{eqb}
+use borrow.Author.Rules.{rules}
+use Rattle.lists.specs.Below.{nth, some_below}
+use Rattle.lists.proofs.Below.{some_below-next}
+use Rattle.scan.proofs.Passing.{has_word}
+use Rattle.scan.proofs.has.Given as goal
+
+abbrev pub invariant-loop-i : goal.invariant-loop-i
+invariant-loop-i l = (l.i ≤ l.n) × (l.found ≡ has_word l.medium l.id l.from l.i)
+
+abbrev pub decreases-loop-i : goal.decreases-loop-i
+decreases-loop-i l = l.n - l.i

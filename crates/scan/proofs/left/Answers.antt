@@ -1,0 +1,24 @@
+-- `scan::left` meets its contract. The invariant: the highest live entry is one of those left.
+use Prim.Native.Nat.{◌-◌, ◌≤◌}
+use mathlib.Core.Path.{◌≡◌, refl, sym, ◌∙◌}
+use mathlib.Core.Logic.{⊎_elim}
+use native.Mathlib.Omega.{arith}
+use borrow.Author.Rules.{rules}
+use Rattle.lists.specs.Below.{highest}
+use Rattle.medium.specs.Entry.{live}
+use Rattle.medium.proofs.Places.{entries-inside}
+use Rattle.scan.proofs.Passing.{passed-by-entries}
+use Rattle.scan.proofs.left.Goals as goal
+
+pub bears_some-requires : goal.bears_some-requires
+bears_some-requires c =
+    let a = c.args in
+    omega (arith, c.entry_at-first.ensures, entries-inside a.capacity a.server (c.loop-j.j - 4) 4 a.medium.now c.requires.inside (omega (arith, c.requires.used_le_capacity)))
+
+pub loop-j-preserved : goal.loop-j-preserved
+loop-j-preserved c =
+    let a = c.args in (
+      search rules,
+      c.loop-j.invariant.1
+          ∙ passed-by-entries a.capacity a.used a.medium.now a.id a.server 4 c.loop-j.j (search rules) (search rules) c.entry_at-first.ensures (sym c.bears_some.ensures ∙ c.if-bears_some.false),
+    )
