@@ -15,7 +15,7 @@ use native.Mathlib.Omega.{arith}
 use lib.Dec.{eqb, ltb}
 use borrow.Author.Tests.{eqb-true, eqb-false, ltb-true, ltb-false}
 use Rattle.lists.specs.Below.{nth, all_below, some_below, highest, or_zero, upward, count_below, total, set_below, join_below}
-use Rattle.lists.proofs.Tests.{by_bool, true-not-false, and_l, and_r, and_i, or-false}
+use Rattle.lists.proofs.Tests.{by_bool, true-not-false, and_l, and_r, and_i}
 
 -- k is below n where it is below suc n and n does not pass
 not_top : (p : ℕ → Bool) (n k : ℕ) → k < suc n → p k ≡ true → p n ≡ false → k < n

@@ -2,14 +2,14 @@
 -- The laws are over any number of entries in a block. Assumes nothing.
 use Prim.Native.Nat.{ℕ, ◌+◌, ◌-◌, ◌*◌, ◌≤◌, ◌<◌}
 use mathlib.Core.Path.{◌≡◌, sym, ap, ◌∙◌}
-use mathlib.Core.Bool.{Bool, true, false}
+use mathlib.Core.Bool.{Bool, false}
 use mathlib.Core.List.{List}
 use native.Mathlib.Omega.{arith}
 use lib.Dec.{eqb}
 use Rattle.lists.specs.Below.{nth, some_below, highest}
 use Rattle.lists.proofs.Below.{some_below-out, highest-below}
 use Rattle.medium.specs.Word.{id_word}
-use Rattle.medium.specs.Entry.{entry_words, entry_at, bears_at, bears, live}
+use Rattle.medium.specs.Entry.{entry_words, entry_at, bears_at, live}
 use Rattle.medium.proofs.Places.{entry-on}
 use Rattle.medium.proofs.Entries.{live_below}
 

@@ -1,7 +1,6 @@
 -- `counters::count` meets its contract: a tenant's counter grows, and a number past the counters changes none.
 use mathlib.Core.Path.{sym}
 use lib.Seq.{set_out}
-use borrow.Author.Rules.{rules}
 use Rattle.counters.specs.Counter.{counted}
 use Rattle.counters.proofs.count.Goals as goal
 

@@ -1,6 +1,5 @@
 -- `counters::grown` meets its contract: the counter is at its bound, or has room for all that were opened, or not.
 use native.Mathlib.Omega.{arith}
-use borrow.Author.Rules.{rules}
 use Rattle.counters.specs.Counter.{grown}
 use Rattle.counters.proofs.grown.Goals as goal
 

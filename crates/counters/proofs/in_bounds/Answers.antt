@@ -1,13 +1,10 @@
 -- `counters::in_bounds` meets its contract. The invariant: whether no counter passed is above its bound.
-use Prim.Native.Nat.{◌-◌, ◌≤◌}
 use mathlib.Core.Path.{◌≡◌, refl, ◌∙◌}
 use mathlib.Core.Bool.{and_comm}
 use native.Mathlib.Omega.{arith}
-use lib.ListN.{length}
-use lib.Dec.{leb}
 use borrow.Author.Rules.{rules}
-use Rattle.limits.specs.Limits.{tenants, max_counter}
-use Rattle.lists.specs.Below.{nth, all_below}
+use Rattle.limits.specs.Limits.{tenants}
+use Rattle.lists.specs.Below.{all_below}
 use Rattle.lists.proofs.Below.{all_below-next}
 use Rattle.counters.specs.Counter.{in_bounds}
 use Rattle.counters.proofs.in_bounds.Goals as goal

@@ -1,5 +1,4 @@
 -- `draws::draw` meets its contract: three rounds over the seed.
-use Rattle.std.proofs.Common.{rules}
 use Rattle.draws.specs.Draw.{draw_of}
 use Rattle.draws.proofs.draw.Goals as goal
 

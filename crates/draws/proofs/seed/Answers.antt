@@ -1,5 +1,5 @@
 -- `draws::seed` meets its contract: the wrapped sum, or 1 where it is 0.
-use Rattle.std.proofs.Common.{◌≡◌, ◌+◌, ◌%◌, arith, rules, eq-eqb, ne_eqb}
+use Rattle.std.proofs.Common.{◌≡◌, ◌+◌, ◌%◌, arith, eq-eqb, ne_eqb}
 use Rattle.draws.specs.Draw.{modulus, step_of, nonzero, seed_of}
 use Rattle.draws.proofs.seed.Goals as goal
 

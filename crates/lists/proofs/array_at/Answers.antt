@@ -1,10 +1,6 @@
 -- `lists::array_at` meets its contract. The invariant: the words passed are in the array.
-use Prim.Native.Nat.{◌-◌, ◌≤◌}
-use mathlib.Core.Path.{◌≡◌}
-use native.Mathlib.Omega.{arith}
 use borrow.Author.Rules.{rules}
 use Rattle.limits.specs.Limits.{max_servers}
-use Rattle.lists.specs.Array.{array_at}
 use Rattle.lists.proofs.Arrays.{array_at-none, array_at-more}
 use Rattle.lists.proofs.array_at.Goals as goal
 

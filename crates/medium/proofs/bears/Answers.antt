@@ -1,5 +1,4 @@
 -- `medium::bears` meets its contract: a case for each of the definition's tests.
-use borrow.Author.Rules.{rules}
 use borrow.Author.Tests.{eq-eqb, ne_eqb}
 use Rattle.medium.specs.Entry.{bears_at}
 use Rattle.medium.proofs.bears.Goals as goal

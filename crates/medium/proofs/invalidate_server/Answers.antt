@@ -2,7 +2,6 @@
 use Prim.Native.Nat.{◌-◌}
 use mathlib.Core.Path.{sym, ap, ◌∙◌}
 use native.Mathlib.Omega.{arith}
-use borrow.Author.Rules.{rules}
 use Rattle.medium.specs.Burn.{burn_all}
 use Rattle.medium.proofs.Marks.{length-marks_on}
 use Rattle.medium.proofs.Invalidated.{all_made}

@@ -1,12 +1,8 @@
 -- `medium::is_blank` meets its contract. The invariant: the words passed are blank.
 use Prim.Native.Nat.{◌≤◌, ◌-◌}
-use mathlib.Core.Path.{◌≡◌, refl, sym}
+use mathlib.Core.Path.{◌≡◌}
 use mathlib.Core.Bool.{true}
-use native.Mathlib.Omega.{arith}
-use borrow.Author.Rules.{rules}
-use Rattle.lists.specs.Below.{all_below}
 use Rattle.medium.specs.Entry.{blank_run}
-use Rattle.medium.proofs.Entries.{blank-not, blank-more}
 use Rattle.medium.proofs.is_blank.Given as goal
 
 abbrev pub invariant-loop-i : goal.invariant-loop-i

@@ -1,14 +1,13 @@
 -- `medium::mark_all` meets its contract. The invariant: the entries passed are done, as `Invalidated` says, and the
 -- running address is the next one's.
-use Prim.Native.Nat.{◌+◌, ◌-◌, ◌≤◌, ◌<◌}
-use mathlib.Core.Path.{◌≡◌, ◌∙◌}
-use mathlib.Core.Logic.{⊎_elim}
+use Prim.Native.Nat.{◌+◌, ◌≤◌, ◌<◌}
+use mathlib.Core.Path.{◌≡◌}
 use native.Mathlib.Omega.{arith}
 use borrow.Author.Rules.{rules}
 use lib.ListN.{length}
-use Rattle.medium.specs.Entry.{entry_at, bears}
+use Rattle.medium.specs.Entry.{bears}
 use Rattle.medium.proofs.Places.{entry-inside, entry-small, entry_next}
-use Rattle.medium.proofs.Invalidated.{Invalidated, none_done, one_more, none_more, all_whole}
+use Rattle.medium.proofs.Invalidated.{none_done, one_more, none_more, all_whole}
 use Rattle.medium.proofs.mark_all.Goals as goal
 use Rattle.medium.proofs.mark_all.Goals.{else-bears, then-bears}
 

@@ -1,9 +1,6 @@
 -- `medium::server_at` meets its contract: the last address is far below 2^64.
 use mathlib.Core.Path.{refl}
-use native.Mathlib.Omega.{arith}
-use borrow.Author.Rules.{rules}
 use Rattle.medium.specs.Entry.{server_at}
-use Rattle.medium.proofs.Places.{server-small}
 use Rattle.medium.proofs.server_at.Goals as goal
 
 pub returns : goal.returns

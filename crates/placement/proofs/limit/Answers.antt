@@ -1,11 +1,9 @@
 -- `placement::limit` meets its contract: a case each for 0, for a fraction above 1 and for any other.
-use Prim.Native.Nat.{ℕ, ◌<◌, ◌≤◌}
-use mathlib.Core.Path.{◌≡◌, sym, ◌∙◌}
 use native.Mathlib.Omega.{arith}
 use borrow.Author.Rules.{rules}
 use borrow.Author.Tests.{lt-ltb, le-leb}
 use Rattle.draws.specs.Draw.{modulus}
-use Rattle.placement.proofs.Fractions.{zero-exceeds-none, improper-exceeds, proper-exceeds, proper-limit}
+use Rattle.placement.proofs.Fractions.{zero-exceeds-none, improper-exceeds, proper-exceeds}
 use Rattle.placement.proofs.limit.Goals as goal
 
 pub returns-then-num-eq0 : goal.returns-then-num-eq0

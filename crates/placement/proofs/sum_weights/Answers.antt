@@ -1,6 +1,6 @@
 -- `placement::sum_weights` meets its contract. The invariant: the sum so far, at most 65,536 for each server passed.
-use Prim.Native.Nat.{◌≤◌, ◌*◌, ◌-◌}
-use mathlib.Core.Path.{◌≡◌, refl}
+use Prim.Native.Nat.{◌≤◌}
+use mathlib.Core.Path.{refl}
 use native.Mathlib.Omega.{arith}
 use borrow.Author.Rules.{rules}
 use Rattle.lists.specs.Below.{nth, total}

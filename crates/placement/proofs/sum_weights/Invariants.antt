@@ -1,10 +1,7 @@
 -- `placement::sum_weights` meets its contract. The invariant: the sum so far, at most 65,536 for each server passed.
 use Prim.Native.Nat.{◌≤◌, ◌*◌, ◌-◌}
-use mathlib.Core.Path.{◌≡◌, refl}
-use native.Mathlib.Omega.{arith}
-use borrow.Author.Rules.{rules}
+use mathlib.Core.Path.{◌≡◌}
 use Rattle.lists.specs.Below.{nth, total}
-use Rattle.lists.proofs.Below.{total-more}
 use Rattle.placement.proofs.sum_weights.Given as goal
 
 abbrev pub invariant-loop-i : goal.invariant-loop-i

@@ -1,6 +1,5 @@
 -- `placement::takes` meets its contract: the comparison with the draw.
 use mathlib.Core.Path.{◌∙◌, ap}
-use borrow.Author.Rules.{rules}
 use Rattle.draws.specs.Draw.{modulus}
 use Rattle.placement.specs.Fraction.{exceeds}
 use Rattle.placement.proofs.takes.Goals as goal

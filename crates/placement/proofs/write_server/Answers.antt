@@ -1,12 +1,11 @@
 -- `placement::write_server` meets its contract. The invariant: the write server is the highest of those left that take.
-use Prim.Native.Nat.{ℕ, ◌≤◌, ◌-◌}
+use Prim.Native.Nat.{◌-◌}
 use mathlib.Core.Path.{◌≡◌, refl, sym, ap, ◌∙◌}
-use mathlib.Core.Bool.{Bool, true, false, cond}
+use mathlib.Core.Bool.{true, false, cond}
 use mathlib.Core.Option.{some}
 use native.Mathlib.Omega.{arith}
-use lib.ListN.{length}
 use borrow.Author.Rules.{rules}
-use Rattle.lists.specs.Below.{nth, highest, or_zero, total}
+use Rattle.lists.specs.Below.{nth, highest, or_zero}
 use Rattle.lists.proofs.Below.{total-last, highest-last, highest-end}
 use Rattle.draws.specs.Draw.{modulus, draw_of}
 use Rattle.placement.specs.Rule.{write_p, takes, pick, write_server}

@@ -1,16 +1,10 @@
 -- `placement::write_server` meets its contract. The invariant: the write server is the highest of those left that take.
-use Prim.Native.Nat.{ℕ, ◌≤◌, ◌-◌}
-use mathlib.Core.Path.{◌≡◌, refl, sym, ap, ◌∙◌}
-use mathlib.Core.Bool.{Bool, true, false, cond}
-use mathlib.Core.Option.{some}
-use native.Mathlib.Omega.{arith}
+use Prim.Native.Nat.{◌≤◌}
+use mathlib.Core.Path.{◌≡◌}
 use lib.ListN.{length}
-use borrow.Author.Rules.{rules}
 use Rattle.lists.specs.Below.{nth, highest, or_zero, total}
-use Rattle.lists.proofs.Below.{total-last, highest-last, highest-end}
 use Rattle.draws.specs.Draw.{modulus, draw_of}
-use Rattle.placement.specs.Rule.{write_p, takes, pick, write_server}
-use Rattle.placement.proofs.Rules.{takes-last}
+use Rattle.placement.specs.Rule.{write_p, takes, write_server}
 use Rattle.placement.proofs.write_server.Given as goal
 
 abbrev pub invariant-loop-k : goal.invariant-loop-k

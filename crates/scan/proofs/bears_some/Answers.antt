@@ -1,12 +1,8 @@
 -- `scan::bears_some` meets its contract. The invariant: no entry passed bears the id.
-use Prim.Native.Nat.{◌-◌, ◌≤◌}
-use mathlib.Core.Path.{◌≡◌, refl, sym, ◌∙◌}
-use mathlib.Core.Bool.{false}
-use native.Mathlib.Omega.{arith}
+use mathlib.Core.Path.{refl, sym, ◌∙◌}
 use borrow.Author.Rules.{rules}
 use Rattle.lists.specs.Below.{some_below}
 use Rattle.lists.proofs.Below.{some_below-in, some_below-more}
-use Rattle.scan.proofs.Passing.{bears_some}
 use Rattle.scan.proofs.bears_some.Goals as goal
 
 pub loop-i-init : goal.loop-i-init

@@ -1,12 +1,8 @@
 -- `scan::has` meets its contract. The invariant: whether a word passed is the id's.
-use Prim.Native.Nat.{◌+◌, ◌-◌, ◌≤◌}
-use mathlib.Core.Path.{◌≡◌, refl}
-use native.Mathlib.Omega.{arith}
-use lib.Dec.{eqb}
+use mathlib.Core.Path.{refl}
 use borrow.Author.Rules.{rules}
-use Rattle.lists.specs.Below.{nth, some_below}
+use Rattle.lists.specs.Below.{some_below}
 use Rattle.lists.proofs.Below.{some_below-next}
-use Rattle.scan.proofs.Passing.{has_word}
 use Rattle.scan.proofs.has.Goals as goal
 
 pub loop-i-init : goal.loop-i-init

@@ -1,11 +1,6 @@
 -- `scan::has` meets its contract. The invariant: whether a word passed is the id's.
-use Prim.Native.Nat.{◌+◌, ◌-◌, ◌≤◌}
-use mathlib.Core.Path.{◌≡◌, refl}
-use native.Mathlib.Omega.{arith}
-use lib.Dec.{eqb}
-use borrow.Author.Rules.{rules}
-use Rattle.lists.specs.Below.{nth, some_below}
-use Rattle.lists.proofs.Below.{some_below-next}
+use Prim.Native.Nat.{◌-◌, ◌≤◌}
+use mathlib.Core.Path.{◌≡◌}
 use Rattle.scan.proofs.Passing.{has_word}
 use Rattle.scan.proofs.has.Given as goal
 

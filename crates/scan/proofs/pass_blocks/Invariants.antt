@@ -1,14 +1,8 @@
 -- `scan::pass_blocks` meets its contract. The invariant: the highest live entry is one of those left.
-use Prim.Native.Nat.{◌+◌, ◌-◌, ◌≤◌}
-use mathlib.Core.Path.{◌≡◌, refl, sym, ◌∙◌}
-use mathlib.Core.Logic.{⊎_elim}
-use native.Mathlib.Omega.{arith}
-use borrow.Author.Rules.{rules}
-use lib.ListN.{length}
+use Prim.Native.Nat.{◌≤◌}
+use mathlib.Core.Path.{◌≡◌}
 use Rattle.lists.specs.Below.{highest}
 use Rattle.medium.specs.Entry.{live}
-use Rattle.medium.proofs.Places.{entries-inside}
-use Rattle.scan.proofs.Passing.{passed-by-words, passed-by-entries}
 use Rattle.scan.proofs.pass_blocks.Given as goal
 
 abbrev pub invariant-loop-j : goal.invariant-loop-j

@@ -1,11 +1,11 @@
 -- `table::is_sound` meets its contract. The invariant: every server so far is sound, and the sum of the weights so far.
-use Prim.Native.Nat.{ℕ, ◌+◌, ◌*◌, ◌-◌, ◌≤◌, ◌<◌}
+use Prim.Native.Nat.{ℕ, ◌+◌, ◌*◌, ◌≤◌, ◌<◌}
 use mathlib.Core.Path.{◌≡◌, refl, sym, ap, ◌∙◌, subst}
 use mathlib.Core.Bool.{Bool, true, false, cond}
 use native.Mathlib.Omega.{arith}
 use borrow.Author.Rules.{rules}
 use lib.Dec.{leb, ltb}
-use borrow.Author.Tests.{leb-true, le-leb, lt-leb, ltb-true, lt-ltb, not-true, not-false}
+use borrow.Author.Tests.{leb-true, le-leb, lt-leb, ltb-true, lt-ltb}
 use Rattle.lists.specs.Below.{all_below, total}
 use Rattle.lists.proofs.Tests.{by_bool, true-not-false}
 use Rattle.lists.proofs.Below.{total-more, all_below-more}

@@ -1,22 +1,11 @@
 -- `table::is_sound` meets its contract. The invariant: every server so far is sound, and the sum of the weights so far.
-use Prim.Native.Nat.{ℕ, ◌+◌, ◌*◌, ◌-◌, ◌≤◌, ◌<◌}
-use mathlib.Core.Path.{◌≡◌, refl, sym, ap, ◌∙◌, subst}
-use mathlib.Core.Bool.{Bool, true, false, cond}
-use native.Mathlib.Omega.{arith}
-use borrow.Author.Rules.{rules}
-use lib.Dec.{leb, ltb}
-use borrow.Author.Tests.{leb-true, le-leb, lt-leb, ltb-true, lt-ltb, not-true, not-false}
+use Prim.Native.Nat.{◌*◌, ◌-◌, ◌≤◌, ◌<◌}
+use mathlib.Core.Path.{◌≡◌}
+use mathlib.Core.Bool.{true}
 use Rattle.lists.specs.Below.{all_below, total}
-use Rattle.lists.proofs.Tests.{by_bool, true-not-false}
-use Rattle.lists.proofs.Below.{total-more, all_below-more}
-use Rattle.counters.specs.Counter.{in_bounds}
-use Rattle.placement.specs.Fraction.{at_least}
-use Rattle.placement.specs.Rule.{share_of, write_p}
-use Rattle.placement.proofs.Shares.{at-least-share}
 use Rattle.table.specs.declared.Table.{Table}
-use Rattle.table.specs.Parts.{table_of, weight_of, used_of, read_p}
-use Rattle.table.specs.Sound.{in_range, read_sound, server_sound, sound}
-use Rattle.table.proofs.Soundness.{sound-facts, range-high, tested-sound, server-unsound}
+use Rattle.table.specs.Parts.{table_of, weight_of, read_p}
+use Rattle.table.specs.Sound.{server_sound}
 use Rattle.table.proofs.is_sound.Given as goal
 
 -- ReadP of server 0, if it is there, is at least 1

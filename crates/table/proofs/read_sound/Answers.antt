@@ -1,6 +1,5 @@
 -- `table::read_sound` meets its contract: the tests are those of `read_sound`, in its order.
 use borrow.Author.Tests.{le-leb, lt-leb}
-use borrow.Author.Rules.{rules}
 use Rattle.table.specs.Sound.{read_sound}
 use Rattle.table.proofs.read_sound.Goals as goal
 

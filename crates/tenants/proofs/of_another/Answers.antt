@@ -1,5 +1,4 @@
 -- `tenants::of_another` meets its contract: the id's tenant is compared with the caller's.
-use borrow.Author.Rules.{rules}
 use Rattle.tenants.specs.Tenant.{of_another}
 use Rattle.tenants.proofs.of_another.Goals as goal
 

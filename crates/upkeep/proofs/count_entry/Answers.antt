@@ -3,7 +3,6 @@ use Prim.Native.Nat.{◌+◌}
 use mathlib.Core.Path.{◌≡◌}
 use native.Mathlib.Numerals.{add-one}
 use lib.ListN.{set}
-use borrow.Author.Rules.{rules}
 use Rattle.lists.specs.Below.{nth}
 use Rattle.upkeep.specs.Upkeep.{one_more}
 use Rattle.upkeep.proofs.count_entry.Goals as goal

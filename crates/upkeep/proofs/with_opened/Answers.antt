@@ -1,5 +1,4 @@
 -- `upkeep::with_opened` meets its contract.
-use borrow.Author.Rules.{rules}
 use Rattle.upkeep.specs.Upkeep.{with_opened}
 use Rattle.upkeep.proofs.with_opened.Goals as goal
 

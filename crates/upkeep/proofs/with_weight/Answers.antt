@@ -1,15 +1,12 @@
 -- `upkeep::with_weight` meets its contract. The invariant: every ReadP so far is raised, and the sum of the weights so far.
-use Prim.Native.Nat.{◌*◌, ◌-◌, ◌≤◌, ◌<◌}
+use Prim.Native.Nat.{◌≤◌, ◌<◌}
 use mathlib.Core.Path.{◌≡◌, refl, sym, ap, ◌∙◌}
 use mathlib.Core.Bool.{true, false}
-use mathlib.Core.Logic.{⊎_elim}
 use native.Mathlib.Omega.{arith}
 use lib.ListN.{set}
 use borrow.Author.Rules.{rules}
-use borrow.Author.Tests.{not-true, not-false}
 use Rattle.lists.specs.Below.{nth, total, set_below}
-use Rattle.table.specs.declared.Table.{Table}
-use Rattle.table.specs.Parts.{shape_of, table_by, weight_of}
+use Rattle.table.specs.Parts.{shape_of, table_by}
 use Rattle.upkeep.specs.Upkeep.{with_weight}
 use Rattle.table.proofs.Soundness.{Arrays, sound-facts}
 use Rattle.upkeep.proofs.KeptSound.{with_weight-light}
@@ -28,6 +25,7 @@ unfolding raised_below set_below total
 loop-i-init c = (search rules, (sound-facts c.args.table c.requires.table_value).few, refl, refl, search rules)
 
 pub overflow_add-sum : goal.overflow_add-sum
+unfolding with_weight
 overflow_add-sum c = omega (
   arith,
   (let light-here' : nth c.loop-i.next.weights c.loop-i.i ≤ 65536 = let a : Arrays c.args.table = search rules in
@@ -38,6 +36,7 @@ overflow_add-sum c = omega (
 )
 
 pub loop-i-preserved : goal.loop-i-preserved
+unfolding with_weight
 loop-i-preserved c =
     let v = c.loop-i.invariant in
     let small = (let light-here' : nth c.loop-i.next.weights c.loop-i.i ≤ 65536 = let a : Arrays c.args.table = search rules in
@@ -53,14 +52,14 @@ loop-i-preserved c =
       | then-not-at_least w ↦ (
         search rules,
         search rules,
-        w.next-is ∙ more false (sym c.at_least.ensures ∙ not-true _ w.if-not-at_least.true),
+        w.next-is ∙ more false (sym c.at_least.ensures ∙ w.if-not-at_least.true),
         sums,
         omega arith,
       )
       | else-not-at_least w ↦ (
         search rules,
         search rules,
-        w.next-is ∙ more true (sym c.at_least.ensures ∙ not-false _ w.if-not-at_least.false),
+        w.next-is ∙ more true (sym c.at_least.ensures ∙ w.if-not-at_least.false),
         sums,
         omega arith,
       )

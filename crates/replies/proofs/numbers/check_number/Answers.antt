@@ -1,6 +1,5 @@
 -- `replies::check_number` meets its contract: a case for each of the check's.
 use mathlib.Core.Path.{sym, ap, ◌∙◌}
-use borrow.Author.Rules.{rules}
 use Rattle.replies.specs.Reply.{check_number}
 use Rattle.replies.proofs.numbers.check_number.Goals as goal
 

@@ -1,6 +1,5 @@
 -- `replies::lookup_reply` meets its contract: a case for each of the answer's.
 use mathlib.Core.Path.{sym, ap, ◌∙◌}
-use borrow.Author.Rules.{rules}
 use Rattle.replies.specs.Reply.{reply_of_lookup}
 use Rattle.replies.proofs.numbers.lookup_reply.Goals as goal
 

@@ -1,6 +1,5 @@
 -- `replies::numbers::refusal_number` meets its contract: a case for each refusal.
 use mathlib.Core.Path.{sym, ap}
-use borrow.Author.Rules.{rules}
 use Rattle.replies.specs.Reply.{number_of}
 use Rattle.replies.proofs.numbers.refusal_number.Goals as goal
 

@@ -1,7 +1,6 @@
 -- `replies::numbers::refusal_reply` meets its contract: the refusal's number, and the servers opened.
 use Prim.Native.Nat.{ℕ}
 use mathlib.Core.Path.{ap}
-use borrow.Author.Rules.{rules}
 use Rattle.replies.specs.Reply.{refused}
 use Rattle.replies.proofs.numbers.refusal_reply.Goals as goal
 

@@ -1,6 +1,5 @@
 -- `replies::server_reply` meets its contract: a case for each of the answer's.
 use mathlib.Core.Path.{sym, ap, ◌∙◌}
-use borrow.Author.Rules.{rules}
 use Rattle.replies.specs.Reply.{reply_of_server}
 use Rattle.replies.proofs.numbers.server_reply.Goals as goal
 

@@ -1,6 +1,5 @@
 -- `replies::start_reply` meets its contract: a case for each of the answer's.
 use mathlib.Core.Path.{sym, ap, ◌∙◌}
-use borrow.Author.Rules.{rules}
 use Rattle.replies.specs.Reply.{reply_of_check}
 use Rattle.replies.proofs.numbers.start_reply.Goals as goal
 

@@ -1,0 +1,18 @@
+-- `recovery::recount` meets its contract. The invariant: the servers passed have their used by the words.
+use Prim.Native.Nat.{suc, ◌≤◌, ◌-◌}
+use mathlib.Core.Path.{◌≡◌, refl, ap, ◌∙◌}
+use native.Mathlib.Omega.{arith}
+use borrow.Author.Rules.{rules}
+use lib.ListN.{length}
+use Rattle.lists.specs.Below.{set_below}
+use Rattle.lists.proofs.Below.{length-set_below, set_below-more}
+use Rattle.medium.proofs.Places.{server-le}
+use Rattle.recovery.specs.Recovery.{used_on}
+use Rattle.recovery.proofs.Recovering.{used_on-le}
+use Rattle.recovery.proofs.recount.Given as goal
+
+abbrev pub invariant-loop-k : goal.invariant-loop-k
+invariant-loop-k l = (l.k ≤ l.count) × (l.used ≡ set_below (used_on l.capacity l.medium) l.k l.initial.used)
+
+abbrev pub decreases-loop-k : goal.decreases-loop-k
+decreases-loop-k l = l.count - l.k

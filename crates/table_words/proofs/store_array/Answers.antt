@@ -1,0 +1,17 @@
+-- `table_words::store_array` meets its contract. The invariant: the words passed are stored.
+use Prim.Native.Nat.{◌-◌, ◌≤◌}
+use mathlib.Core.Path.{◌≡◌, refl}
+use native.Mathlib.Numerals.{add-one}
+use native.Mathlib.Omega.{arith}
+use lib.ListN.{length, length-set}
+use lib.Seq.{paste, paste-zero, paste-suc}
+use borrow.Author.Rules.{rules}
+use Rattle.table_words.proofs.store_array.Goals as goal
+
+pub loop-k-preserved : goal.loop-k-preserved
+loop-k-preserved c =
+    let a = c.args in (
+      search rules,
+      rw (c.loop-k.invariant.1, add-one c.loop-k.k) (paste-suc a.words.now a.from a.array.now c.loop-k.k 0 (search rules) (search rules)),
+      simp length-set c.loop-k.invariant.2,
+    )
