@@ -1,13 +1,8 @@
 -- `batch_answer::has` meets its contract. The invariant: none of the numbers passed is the one looked for.
-use Prim.Native.Nat.{ℕ, ◌≤◌, ◌-◌}
-use mathlib.Core.Path.{◌≡◌, refl, sym}
-use mathlib.Core.Bool.{Bool, false}
-use mathlib.Core.List.{List}
-use native.Mathlib.Omega.{arith}
-use lib.Dec.{eqb}
+use mathlib.Core.Path.{refl, sym}
 use borrow.Author.Rules.{rules}
 use borrow.Author.Tests.{eq-eqb, ne_eqb}
-use Rattle.lists.specs.Below.{nth, some_below}
+use Rattle.lists.specs.Below.{some_below}
 use Rattle.lists.proofs.Below.{some_below-in, some_below-more}
 use Rattle.batch_answer.proofs.has.Invariants.{is_at}
 use Rattle.batch_answer.proofs.has.Goals as goal

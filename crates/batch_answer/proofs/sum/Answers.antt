@@ -1,10 +1,8 @@
 -- `batch_answer::sum` meets its contract. The invariant: the sum of the numbers passed.
-use Prim.Native.Nat.{◌-◌, ◌*◌, ◌≤◌}
-use mathlib.Core.Path.{◌≡◌, refl}
+use mathlib.Core.Path.{refl}
 use native.Mathlib.Omega.{arith}
 use borrow.Author.Rules.{rules}
-use Rattle.limits.specs.Limits.{max_ids}
-use Rattle.lists.specs.Below.{nth, total}
+use Rattle.lists.specs.Below.{total}
 use Rattle.lists.proofs.Below.{total-more}
 use Rattle.batch_answer.proofs.sum.Goals as goal
 

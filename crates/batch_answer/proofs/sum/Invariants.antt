@@ -1,11 +1,8 @@
 -- `batch_answer::sum` meets its contract. The invariant: the sum of the numbers passed.
 use Prim.Native.Nat.{◌-◌, ◌*◌, ◌≤◌}
-use mathlib.Core.Path.{◌≡◌, refl}
-use native.Mathlib.Omega.{arith}
-use borrow.Author.Rules.{rules}
+use mathlib.Core.Path.{◌≡◌}
 use Rattle.limits.specs.Limits.{max_ids}
 use Rattle.lists.specs.Below.{nth, total}
-use Rattle.lists.proofs.Below.{total-more}
 use Rattle.batch_answer.proofs.sum.Given as goal
 
 abbrev pub invariant-loop-i : goal.invariant-loop-i

@@ -1,11 +1,8 @@
 -- `batch_scan::fill` meets its contract. The invariant: the slots of the ids passed are set.
 use Prim.Native.Nat.{◌-◌, ◌≤◌}
-use mathlib.Core.Path.{◌≡◌, ◌∙◌}
-use native.Mathlib.Omega.{arith}
-use lib.ListN.{length, length-set}
-use borrow.Author.Rules.{rules}
+use mathlib.Core.Path.{◌≡◌}
+use lib.ListN.{length}
 use Rattle.batch_scan.specs.Scan.{slots, Covers}
-use Rattle.batch_scan.proofs.Passing.{covers_more}
 use Rattle.batch_scan.proofs.fill.Given as goal
 
 abbrev pub invariant-loop-i : goal.invariant-loop-i

@@ -1,12 +1,9 @@
 -- `batch_scan::meet` meets its contract. The invariant: the numbers of the ids passed are those that it ensures, and the rest as before.
 use Prim.Native.Nat.{◌-◌, ◌≤◌}
-use mathlib.Core.Path.{◌≡◌, refl}
-use native.Mathlib.Omega.{arith}
+use mathlib.Core.Path.{◌≡◌}
 use lib.Dec.{eqb}
-use borrow.Author.Rules.{rules}
 use Rattle.lists.specs.Below.{nth, set_below}
 use Rattle.batch_scan.specs.Scan.{met_by}
-use Rattle.batch_scan.proofs.Passing.{meet-more}
 use Rattle.batch_scan.proofs.meet.Given as goal
 
 abbrev pub invariant-loop-i : goal.invariant-loop-i

@@ -1,6 +1,5 @@
 -- `batch_scan::newest_of` meets its contract: all entries are passed, with no entry met before.
 use native.Mathlib.Omega.{arith}
-use borrow.Author.Rules.{rules}
 use Rattle.lists.proofs.Below.{nth-zeros}
 use Rattle.medium.proofs.Places.{server-next}
 use Rattle.batch_scan.proofs.Passing.{newest-all}

@@ -1,6 +1,6 @@
 -- `batch_scan::pass` meets its contract. The invariant: the entries from `j` on are passed.
 use Prim.Native.Nat.{◌+◌, ◌*◌, ◌-◌, ◌≤◌}
-use mathlib.Core.Path.{◌≡◌, refl}
+use mathlib.Core.Path.{refl}
 use mathlib.Core.Bool.{not}
 use native.Mathlib.Omega.{arith}
 use lib.ListN.{length}
@@ -9,8 +9,7 @@ use borrow.Author.Rules.{rules}
 use borrow.Author.Tests.{eqb-true}
 use Rattle.lists.specs.Below.{nth}
 use Rattle.lists.proofs.Tests.{and_r}
-use Rattle.batch_scan.specs.Scan.{Passed}
-use Rattle.batch_scan.proofs.Passing.{passed_none, passed_then, passed_over, passed-met}
+use Rattle.batch_scan.proofs.Passing.{passed_then, passed_over, passed-met}
 use Rattle.batch_scan.proofs.pass.Goals as goal
 
 pub loop-j-preserved-then-filter-slot : goal.loop-j-preserved-then-filter-slot

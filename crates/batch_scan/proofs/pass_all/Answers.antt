@@ -1,10 +1,9 @@
 -- `batch_scan::pass_all` meets its contract. The invariant: the entries from `j` on are passed.
-use Prim.Native.Nat.{◌+◌, ◌*◌, ◌-◌, ◌≤◌}
+use Prim.Native.Nat.{◌+◌, ◌*◌, ◌-◌}
 use mathlib.Core.Path.{refl, sym, ◌∙◌}
-use native.Mathlib.Omega.{arith}
 use borrow.Author.Rules.{rules}
-use Rattle.batch_scan.specs.Scan.{block, Passed}
-use Rattle.batch_scan.proofs.Passing.{passed_none, passed_then, passed-block}
+use Rattle.batch_scan.specs.Scan.{block}
+use Rattle.batch_scan.proofs.Passing.{passed_then, passed-block}
 use Rattle.batch_scan.proofs.pass_all.Goals as goal
 
 pub loop-j-preserved : goal.loop-j-preserved

@@ -1,10 +1,6 @@
 -- `batch_scan::pass_all` meets its contract. The invariant: the entries from `j` on are passed.
-use Prim.Native.Nat.{◌+◌, ◌*◌, ◌-◌, ◌≤◌}
-use mathlib.Core.Path.{refl, sym, ◌∙◌}
-use native.Mathlib.Omega.{arith}
-use borrow.Author.Rules.{rules}
-use Rattle.batch_scan.specs.Scan.{block, Passed}
-use Rattle.batch_scan.proofs.Passing.{passed_none, passed_then, passed-block}
+use Prim.Native.Nat.{◌≤◌}
+use Rattle.batch_scan.specs.Scan.{Passed}
 use Rattle.batch_scan.proofs.pass_all.Given as goal
 
 abbrev pub invariant-loop-j : goal.invariant-loop-j

@@ -1,14 +1,13 @@
 -- `batch_scan::touches` meets its contract. The invariant: the test so far is that of the entries passed.
-use Prim.Native.Nat.{ℕ, ◌+◌, ◌*◌, ◌-◌, ◌≤◌}
+use Prim.Native.Nat.{ℕ, ◌+◌, ◌*◌}
 use mathlib.Core.Path.{◌≡◌, refl, ap}
 use mathlib.Core.Bool.{not}
-use native.Mathlib.Omega.{arith}
 use lib.Dec.{eqb}
 use borrow.Author.Rules.{rules}
 use Rattle.lists.specs.Below.{nth, some_below}
 use Rattle.lists.proofs.Below.{some_below-next}
 use Rattle.medium.specs.Entry.{entry_words}
-use Rattle.batch_scan.specs.Scan.{slot_of, block, is_set}
+use Rattle.batch_scan.specs.Scan.{slot_of, is_set}
 use Rattle.batch_scan.proofs.touches.Goals as goal
 
 pub loop-j-init : goal.loop-j-init

@@ -1,9 +1,6 @@
 -- `letters::number_for` meets its contract. The invariant: the numbers left to look at give the letter's.
-use Prim.Native.Nat.{◌≤◌}
 use mathlib.Core.Path.{◌≡◌, sym, ap, ◌∙◌}
 use native.Mathlib.Omega.{arith}
-use borrow.Author.Rules.{rules}
-use Rattle.letters.specs.Letter.{number_for}
 use Rattle.letters.proofs.Lettering.{number_below, number-all, number-none, number-here, number-on}
 use Rattle.letters.proofs.number_for.Goals as goal
 

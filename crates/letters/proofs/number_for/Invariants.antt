@@ -1,10 +1,8 @@
 -- `letters::number_for` meets its contract. The invariant: the numbers left to look at give the letter's.
 use Prim.Native.Nat.{◌≤◌}
-use mathlib.Core.Path.{◌≡◌, sym, ap, ◌∙◌}
-use native.Mathlib.Omega.{arith}
-use borrow.Author.Rules.{rules}
+use mathlib.Core.Path.{◌≡◌}
 use Rattle.letters.specs.Letter.{number_for}
-use Rattle.letters.proofs.Lettering.{number_below, number-all, number-none, number-here, number-on}
+use Rattle.letters.proofs.Lettering.{number_below}
 use Rattle.letters.proofs.number_for.Given as goal
 
 abbrev pub invariant-loop-left : goal.invariant-loop-left

@@ -1,9 +1,7 @@
 -- `marking::invalidate_server` meets its contract. The invariant: the blocks passed are done, as `Marked` says, and the running address
 -- is that of the entries left.
-use Prim.Native.Nat.{ℕ, ◌+◌, ◌-◌, ◌*◌, ◌≤◌}
-use mathlib.Core.Path.{◌≡◌, sym, ap, ◌∙◌}
-use mathlib.Core.Logic.{⊎_elim}
-use mathlib.Core.List.{List}
+use Prim.Native.Nat.{◌+◌, ◌-◌, ◌*◌, ◌≤◌}
+use mathlib.Core.Path.{◌≡◌, sym, ◌∙◌}
 use native.Mathlib.Omega.{arith}
 use borrow.Author.Rules.{rules}
 use lib.ListN.{length}
@@ -11,7 +9,7 @@ use Rattle.medium.specs.Entry.{entry_at}
 use Rattle.medium.proofs.Places.{entries-inside}
 use Rattle.scan.proofs.Passing.{none-by-words}
 use Rattle.marking.proofs.Runs.{server-run}
-use Rattle.marking.proofs.Marked.{Marked, none-marked, few, more-marked, none_more}
+use Rattle.marking.proofs.Marked.{none-marked, few, more-marked, none_more}
 use Rattle.marking.proofs.invalidate_server.Goals as goal
 use Rattle.marking.proofs.invalidate_server.Goals.{else-has, then-has}
 

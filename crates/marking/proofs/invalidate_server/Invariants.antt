@@ -1,17 +1,9 @@
 -- `marking::invalidate_server` meets its contract. The invariant: the blocks passed are done, as `Marked` says, and the running address
 -- is that of the entries left.
-use Prim.Native.Nat.{ℕ, ◌+◌, ◌-◌, ◌*◌, ◌≤◌}
-use mathlib.Core.Path.{◌≡◌, sym, ap, ◌∙◌}
-use mathlib.Core.Logic.{⊎_elim}
-use mathlib.Core.List.{List}
-use native.Mathlib.Omega.{arith}
-use borrow.Author.Rules.{rules}
-use lib.ListN.{length}
+use Prim.Native.Nat.{◌+◌, ◌-◌, ◌*◌, ◌≤◌}
+use mathlib.Core.Path.{◌≡◌}
 use Rattle.medium.specs.Entry.{entry_at}
-use Rattle.medium.proofs.Places.{entries-inside}
-use Rattle.scan.proofs.Passing.{none-by-words}
-use Rattle.marking.proofs.Runs.{server-run}
-use Rattle.marking.proofs.Marked.{Marked, none-marked, few, more-marked, none_more}
+use Rattle.marking.proofs.Marked.{Marked}
 use Rattle.marking.proofs.invalidate_server.Given as goal
 
 abbrev pub invariant-loop-left : goal.invariant-loop-left

@@ -1,12 +1,9 @@
 -- `marking::mark_run` meets its contract. The invariant: the entries passed are done, as `Marked` says, and the running address is the
 -- next one's.
-use Prim.Native.Nat.{◌+◌, ◌-◌, ◌*◌, ◌≤◌, ◌<◌}
-use mathlib.Core.Path.{◌≡◌, ◌∙◌}
-use mathlib.Core.Logic.{⊎_elim}
+use mathlib.Core.Path.{◌∙◌}
 use native.Mathlib.Omega.{arith}
 use borrow.Author.Rules.{rules}
-use lib.ListN.{length}
-use Rattle.marking.proofs.Marked.{Marked, none-marked, few, one-not, one-marked, one_left}
+use Rattle.marking.proofs.Marked.{none-marked, few, one-not, one-marked, one_left}
 use Rattle.marking.proofs.mark_run.Goals as goal
 use Rattle.marking.proofs.mark_run.Goals.{else-bears, else-marks-burns, then-bears, then-marks-burns}
 

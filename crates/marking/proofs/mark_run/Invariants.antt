@@ -1,12 +1,8 @@
 -- `marking::mark_run` meets its contract. The invariant: the entries passed are done, as `Marked` says, and the running address is the
 -- next one's.
-use Prim.Native.Nat.{◌+◌, ◌-◌, ◌*◌, ◌≤◌, ◌<◌}
-use mathlib.Core.Path.{◌≡◌, ◌∙◌}
-use mathlib.Core.Logic.{⊎_elim}
-use native.Mathlib.Omega.{arith}
-use borrow.Author.Rules.{rules}
-use lib.ListN.{length}
-use Rattle.marking.proofs.Marked.{Marked, none-marked, few, one-not, one-marked, one_left}
+use Prim.Native.Nat.{◌+◌, ◌-◌, ◌*◌, ◌≤◌}
+use mathlib.Core.Path.{◌≡◌}
+use Rattle.marking.proofs.Marked.{Marked}
 use Rattle.marking.proofs.mark_run.Given as goal
 
 abbrev pub invariant-loop-i : goal.invariant-loop-i

@@ -1,15 +1,10 @@
 -- `picks::are_bounded` meets its contract. The invariant: each weight so far is light.
 use Prim.Native.Nat.{◌-◌, ◌≤◌}
-use mathlib.Core.Path.{◌≡◌, refl}
-use mathlib.Core.Bool.{true, false}
-use native.Mathlib.Omega.{arith}
+use mathlib.Core.Path.{◌≡◌}
+use mathlib.Core.Bool.{true}
 use lib.ListN.{length}
-use lib.Dec.{leb}
-use borrow.Author.Rules.{rules}
-use borrow.Author.Tests.{le-leb, lt-leb}
 use Rattle.lists.specs.Below.{all_below}
-use Rattle.lists.proofs.Below.{all_below-not, all_below-more}
-use Rattle.picks.specs.Picks.{light, bounded}
+use Rattle.picks.specs.Picks.{light}
 use Rattle.picks.proofs.are_bounded.Given as goal
 
 abbrev pub invariant-loop-i : goal.invariant-loop-i

@@ -1,13 +1,9 @@
 -- `picks::highest_of` meets its contract. The invariant: the highest of the servers looked at that takes the id.
-use Prim.Native.Nat.{◌+◌, ◌-◌, ◌≤◌}
-use mathlib.Core.Path.{◌≡◌, refl}
+use mathlib.Core.Path.{refl}
 use mathlib.Core.Bool.{true, false}
-use mathlib.Core.Logic.{⊎_elim}
-use native.Mathlib.Omega.{arith}
 use borrow.Author.Rules.{rules}
 use Rattle.lists.specs.Below.{highest, or_zero}
 use Rattle.lists.proofs.Below.{highest-next}
-use Rattle.picks.specs.Limited.{block, passes}
 use Rattle.picks.proofs.highest_of.Goals as goal
 use Rattle.picks.proofs.highest_of.Goals.{else-takes, then-takes}
 

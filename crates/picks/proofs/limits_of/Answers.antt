@@ -1,12 +1,12 @@
 -- `picks::limits_of` meets its contract. The invariant: the servers passed have their limits, by the sum so far.
-use Prim.Native.Nat.{◌*◌, ◌-◌, ◌≤◌}
-use mathlib.Core.Path.{◌≡◌, refl}
+use Prim.Native.Nat.{◌≤◌}
+use mathlib.Core.Path.{refl}
 use native.Mathlib.Omega.{arith}
-use lib.ListN.{length, length-set}
+use lib.ListN.{length-set}
 use borrow.Author.Rules.{rules}
 use Rattle.lists.specs.Below.{nth, total}
 use Rattle.lists.proofs.Below.{total-more}
-use Rattle.picks.proofs.Limiting.{LimitsBelow, limits-more}
+use Rattle.picks.proofs.Limiting.{limits-more}
 use Rattle.picks.proofs.limits_of.Goals as goal
 
 pub loop-k-init : goal.loop-k-init

@@ -1,12 +1,9 @@
 -- `picks::limits_of` meets its contract. The invariant: the servers passed have their limits, by the sum so far.
 use Prim.Native.Nat.{◌*◌, ◌-◌, ◌≤◌}
-use mathlib.Core.Path.{◌≡◌, refl}
-use native.Mathlib.Omega.{arith}
-use lib.ListN.{length, length-set}
-use borrow.Author.Rules.{rules}
+use mathlib.Core.Path.{◌≡◌}
+use lib.ListN.{length}
 use Rattle.lists.specs.Below.{nth, total}
-use Rattle.lists.proofs.Below.{total-more}
-use Rattle.picks.proofs.Limiting.{LimitsBelow, limits-more}
+use Rattle.picks.proofs.Limiting.{LimitsBelow}
 use Rattle.picks.proofs.limits_of.Given as goal
 
 abbrev pub invariant-loop-k : goal.invariant-loop-k

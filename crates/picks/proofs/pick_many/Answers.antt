@@ -1,8 +1,7 @@
 -- `picks::pick_many` meets its contract. The invariant: the write servers of the ids passed are stored.
-use Prim.Native.Nat.{◌-◌, ◌≤◌}
 use mathlib.Core.Path.{◌≡◌, refl}
 use native.Mathlib.Omega.{arith}
-use lib.ListN.{length, length-set}
+use lib.ListN.{length-set}
 use borrow.Author.Rules.{rules}
 use Rattle.lists.specs.Below.{set_below}
 use Rattle.lists.proofs.Below.{set_below-more}

@@ -1,12 +1,9 @@
 -- `picks::pick_many` meets its contract. The invariant: the write servers of the ids passed are stored.
 use Prim.Native.Nat.{◌-◌, ◌≤◌}
-use mathlib.Core.Path.{◌≡◌, refl}
-use native.Mathlib.Omega.{arith}
-use lib.ListN.{length, length-set}
-use borrow.Author.Rules.{rules}
+use mathlib.Core.Path.{◌≡◌}
+use lib.ListN.{length}
 use Rattle.lists.specs.Below.{set_below}
-use Rattle.lists.proofs.Below.{set_below-more}
-use Rattle.picks.proofs.Picking.{server_of, picked-small}
+use Rattle.picks.proofs.Picking.{server_of}
 use Rattle.picks.proofs.pick_many.Given as goal
 
 abbrev pub invariant-loop-i : goal.invariant-loop-i

@@ -1,12 +1,11 @@
 -- `picks::picks` meets its contract. The invariant: the write servers of the ids passed are stored.
-use Prim.Native.Nat.{◌-◌, ◌≤◌}
 use mathlib.Core.Path.{◌≡◌, refl, sym, ap, ap₂, ◌∙◌}
 use mathlib.Core.Bool.{Bool, true, ◌&&◌}
 use native.Mathlib.Omega.{arith}
-use lib.ListN.{length, length-set}
+use lib.ListN.{length-set}
 use borrow.Author.Rules.{rules}
 use lib.Dec.{ltb}
-use borrow.Author.Tests.{not-true, not-false, le-ltb}
+use borrow.Author.Tests.{le-ltb}
 use Rattle.limits.specs.Limits.{content_range}
 use Rattle.lists.specs.Below.{set_below}
 use Rattle.lists.proofs.Below.{set_below-more}

@@ -1,11 +1,10 @@
 -- `picks::server_of` meets its contract. The invariant: the write server is the highest of those left that take the id.
-use Prim.Native.Nat.{◌+◌, ◌-◌, ◌≤◌}
+use Prim.Native.Nat.{◌+◌, ◌-◌}
 use native.Mathlib.Omega.{arith}
-use lib.ListN.{length}
 use borrow.Author.Rules.{rules}
 use Rattle.lists.proofs.Below.{highest-le}
 use Rattle.picks.specs.Limited.{block, passes}
-use Rattle.picks.proofs.Limiting.{ServedBy, served-all, served-past, served-among, served-rest, bounded-first}
+use Rattle.picks.proofs.Limiting.{served-all, served-past, served-among, served-rest}
 use Rattle.picks.proofs.server_of.Goals as goal
 
 pub loop-k-init : goal.loop-k-init

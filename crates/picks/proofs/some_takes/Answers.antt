@@ -1,11 +1,8 @@
 -- `picks::some_takes` meets its contract. The invariant: whether one of the servers looked at takes the id.
-use Prim.Native.Nat.{◌+◌, ◌-◌, ◌≤◌}
-use mathlib.Core.Path.{◌≡◌, refl}
-use native.Mathlib.Omega.{arith}
+use mathlib.Core.Path.{refl}
 use borrow.Author.Rules.{rules}
 use Rattle.lists.specs.Below.{some_below}
 use Rattle.lists.proofs.Below.{some_below-next}
-use Rattle.picks.specs.Limited.{block, passes}
 use Rattle.picks.proofs.some_takes.Goals as goal
 
 pub loop-i-init : goal.loop-i-init

@@ -1,10 +1,7 @@
 -- `picks::some_takes` meets its contract. The invariant: whether one of the servers looked at takes the id.
 use Prim.Native.Nat.{◌+◌, ◌-◌, ◌≤◌}
-use mathlib.Core.Path.{◌≡◌, refl}
-use native.Mathlib.Omega.{arith}
-use borrow.Author.Rules.{rules}
+use mathlib.Core.Path.{◌≡◌}
 use Rattle.lists.specs.Below.{some_below}
-use Rattle.lists.proofs.Below.{some_below-next}
 use Rattle.picks.specs.Limited.{block, passes}
 use Rattle.picks.proofs.some_takes.Given as goal
 

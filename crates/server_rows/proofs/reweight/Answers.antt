@@ -2,8 +2,7 @@
 use mathlib.Core.Bool.{true, false}
 use mathlib.Core.Path.{◌≡◌, sym, ◌∙◌}
 use borrow.Author.Rules.{rules}
-use borrow.Author.Tests.{lt-ltb, le-ltb, le-leb, lt-leb, not-true, not-false}
-use Rattle.table.specs.declared.Table.{Table}
+use borrow.Author.Tests.{lt-ltb, le-ltb, le-leb, lt-leb}
 use Rattle.table.specs.Parts.{table_of}
 use Rattle.table.specs.Sound.{sound}
 use Rattle.table.proofs.Soundness.{Sound, sound-facts}

@@ -1,8 +1,6 @@
 -- `server_rows::start` meets its contract: a return for each answer of the test.
 use mathlib.Core.Path.{◌≡◌, sym, ◌∙◌}
-use mathlib.Core.Bool.{Bool, true, false}
-use borrow.Author.Rules.{rules}
-use borrow.Author.Tests.{not-true, not-false}
+use mathlib.Core.Bool.{true, false}
 use Rattle.table.specs.Sound.{in_range}
 use Rattle.replies.specs.Refusal.{first_of}
 use Rattle.replies.specs.Reply.{number_of, check_number}
