@@ -1,6 +1,5 @@
 -- `lookup::lookup` meets its contract: the lookup on borrowed columns, and then the count.
 use mathlib.Core.Path.{◌≡◌, ap, ◌∙◌}
-use borrow.Author.Rules.{rules}
 use Rattle.upkeep.specs.Upkeep.{with_opened}
 use Rattle.replies.specs.declared.Reply.{Reply}
 use Rattle.lookup.specs.Lookup.{lookup_reply, lookup_table}

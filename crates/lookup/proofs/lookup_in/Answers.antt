@@ -1,13 +1,9 @@
 -- `lookup::lookup_in` meets its contract: what the tests say, and what the search met.
-use Prim.Native.Nat.{ℕ}
 use mathlib.Core.Path.{◌≡◌}
-use mathlib.Core.List.{List}
 use native.Mathlib.Omega.{arith}
-use borrow.Author.Rules.{rules}
 use Rattle.medium.proofs.Entries.{live-used}
-use Rattle.table.specs.declared.Table.{Table}
 use Rattle.table.specs.Parts.{table_of, used_of}
-use Rattle.replies.specs.Refusal.{Row, first_of}
+use Rattle.replies.specs.Refusal.{first_of}
 use Rattle.replies.specs.Reply.{number_of, reply_of_lookup}
 use Rattle.replies.proofs.Answers.{check-refused, check-accepted}
 use Rattle.search.specs.Search.{search_for}

@@ -1,14 +1,8 @@
 -- `recovery::recount` meets its contract. The invariant: the servers passed have their used by the words.
-use Prim.Native.Nat.{suc, ◌≤◌, ◌-◌}
-use mathlib.Core.Path.{◌≡◌, refl, ap, ◌∙◌}
-use native.Mathlib.Omega.{arith}
-use borrow.Author.Rules.{rules}
-use lib.ListN.{length}
+use Prim.Native.Nat.{◌≤◌, ◌-◌}
+use mathlib.Core.Path.{◌≡◌}
 use Rattle.lists.specs.Below.{set_below}
-use Rattle.lists.proofs.Below.{length-set_below, set_below-more}
-use Rattle.medium.proofs.Places.{server-le}
 use Rattle.recovery.specs.Recovery.{used_on}
-use Rattle.recovery.proofs.Recovering.{used_on-le}
 use Rattle.recovery.proofs.recount.Given as goal
 
 abbrev pub invariant-loop-k : goal.invariant-loop-k

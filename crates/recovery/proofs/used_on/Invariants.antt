@@ -1,12 +1,7 @@
 -- `recovery::used_on` meets its contract. The invariant: the server's used is among the first n entries.
-use Prim.Native.Nat.{◌≤◌, ◌-◌}
-use mathlib.Core.Path.{◌≡◌, refl}
-use native.Mathlib.Omega.{arith}
-use borrow.Author.Rules.{rules}
-use borrow.Author.Tests.{not-true, not-false}
-use Rattle.medium.proofs.Places.{entry-inside}
+use Prim.Native.Nat.{◌≤◌}
+use mathlib.Core.Path.{◌≡◌}
 use Rattle.recovery.specs.Recovery.{past_last, touched, used_on}
-use Rattle.recovery.proofs.Recovering.{used-found, used-further, used-none}
 use Rattle.recovery.proofs.used_on.Given as goal
 
 abbrev pub invariant-loop-n : goal.invariant-loop-n

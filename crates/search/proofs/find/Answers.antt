@@ -1,20 +1,16 @@
 -- `search::find` meets its contract. The invariants: the answer is that of what is left to search.
-use Prim.Native.Nat.{ℕ, ◌+◌, ◌-◌, ◌≤◌, ◌<◌}
+use Prim.Native.Nat.{◌+◌, ◌-◌, ◌≤◌, ◌<◌}
 use mathlib.Core.Path.{◌≡◌, refl, sym, ◌∙◌}
-use mathlib.Core.Bool.{false}
-use mathlib.Core.List.{List}
-use mathlib.Core.Logic.{⊎_elim}
 use native.Mathlib.Omega.{arith}
 use borrow.Author.Rules.{rules}
 use Rattle.lists.specs.Below.{nth}
 use Rattle.lists.proofs.Tests.{true-not-false}
 use Rattle.medium.specs.Entry.{Inside}
 use Rattle.medium.proofs.Places.{entry-inside}
-use Rattle.table.specs.declared.Table.{Table}
 use Rattle.table.specs.Parts.{table_of, column}
 use Rattle.search.specs.declared.SearchAnswer.TheVariants.{At}
 use Rattle.search.specs.Search.{search_for, answer_of}
-use Rattle.search.proofs.Finding.{each-inside, servers_left, entries_left, all_left, server-skipped, server-opened, no-server-left, entries-passed, entry-skipped, entry-met, no-entry-left}
+use Rattle.search.proofs.Finding.{each-inside, all_left, server-skipped, server-opened, no-server-left, entries-passed, entry-skipped, entry-met, no-entry-left}
 use Rattle.search.proofs.find.Goals as goal
 use Rattle.search.proofs.find.Goals.{else-search-test, then-search-test+then-takes+then-loop-j-test+then-bears}
 

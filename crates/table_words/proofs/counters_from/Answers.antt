@@ -1,5 +1,4 @@
 -- `table_words::counters_from` meets its contract. The invariant: the words passed are in the array.
-use Prim.Native.Nat.{◌-◌, ◌≤◌}
 use mathlib.Core.Path.{◌≡◌, ap, ◌∙◌}
 use native.Mathlib.Omega.{arith}
 use borrow.Author.Rules.{rules}

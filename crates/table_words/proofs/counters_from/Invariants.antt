@@ -1,11 +1,8 @@
 -- `table_words::counters_from` meets its contract. The invariant: the words passed are in the array.
 use Prim.Native.Nat.{◌-◌, ◌≤◌}
-use mathlib.Core.Path.{◌≡◌, ap, ◌∙◌}
-use native.Mathlib.Omega.{arith}
-use borrow.Author.Rules.{rules}
+use mathlib.Core.Path.{◌≡◌}
 use Rattle.limits.specs.Limits.{tenants}
 use Rattle.lists.specs.Array.{array_at}
-use Rattle.lists.proofs.Arrays.{array_at-none, array_at-more, array_at-whole}
 use Rattle.table_words.specs.Words.{counters_offset}
 use Rattle.table_words.proofs.counters_from.Given as goal
 

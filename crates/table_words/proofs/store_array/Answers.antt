@@ -1,10 +1,7 @@
 -- `table_words::store_array` meets its contract. The invariant: the words passed are stored.
-use Prim.Native.Nat.{◌-◌, ◌≤◌}
-use mathlib.Core.Path.{◌≡◌, refl}
 use native.Mathlib.Numerals.{add-one}
-use native.Mathlib.Omega.{arith}
-use lib.ListN.{length, length-set}
-use lib.Seq.{paste, paste-zero, paste-suc}
+use lib.ListN.{length-set}
+use lib.Seq.{paste-suc}
 use borrow.Author.Rules.{rules}
 use Rattle.table_words.proofs.store_array.Goals as goal
 

@@ -1,11 +1,8 @@
 -- `table_words::store_array` meets its contract. The invariant: the words passed are stored.
 use Prim.Native.Nat.{◌-◌, ◌≤◌}
-use mathlib.Core.Path.{◌≡◌, refl}
-use native.Mathlib.Numerals.{add-one}
-use native.Mathlib.Omega.{arith}
-use lib.ListN.{length, length-set}
-use lib.Seq.{paste, paste-zero, paste-suc}
-use borrow.Author.Rules.{rules}
+use mathlib.Core.Path.{◌≡◌}
+use lib.ListN.{length}
+use lib.Seq.{paste}
 use Rattle.table_words.proofs.store_array.Given as goal
 
 abbrev pub invariant-loop-k : goal.invariant-loop-k

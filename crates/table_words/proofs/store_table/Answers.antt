@@ -1,7 +1,4 @@
 -- `table_words::store_table` meets its contract: three words, four columns and the counters.
-use mathlib.Core.Path.{◌≡◌, ◌∙◌}
-use native.Mathlib.Omega.{arith}
-use lib.ListN.{length, length-set}
 use borrow.Author.Rules.{rules}
 use Rattle.table.proofs.Soundness.{Arrays}
 use Rattle.table_words.proofs.Lent.{stored-table}

@@ -1,9 +1,4 @@
 -- `table_words::table_from` meets its contract: the shape, four columns and the counters.
-use Prim.Native.Nat.{◌<◌}
-use mathlib.Core.Path.{ap}
-use native.Mathlib.Omega.{arith}
-use borrow.Author.Rules.{rules}
-use Rattle.table.specs.declared.Shape.{Shape}
 use Rattle.table_words.proofs.Lent.{read_table}
 use Rattle.table_words.proofs.table_from.Goals as goal
 
