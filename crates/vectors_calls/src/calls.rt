@@ -41,11 +41,9 @@ fn add_server<W: Write>(
 // Adds this many servers of weight 1 and prints no reply.
 fn add_servers(table: Table, medium: &[u32], n: u32) -> Table {
     let mut next = table;
-    let mut i: u32 = 0;
-    while i < n {
+    for _ in 0..n {
         let changed = servers::add_server(next, medium, 1);
         next = changed.table;
-        i += 1;
     }
     next
 }

@@ -10,10 +10,8 @@ use std::io::Write;
 // A seed after this many rounds.
 fn rounds(seed: u32, n: u32) -> u32 {
     let mut s = seed;
-    let mut i: u32 = 0;
-    while i < n {
+    for _ in 0..n {
         s = draws::round(s);
-        i += 1;
     }
     s
 }
