@@ -1,8 +1,9 @@
 // This crate reads a reader whole and writes a buffer whole. A signal is no error, and neither is a short read or a short write.
 #![tactic(auto)]
 
-ghost use Rattle.std.specs.Prelude.{◌≤◌, ◌-◌, ◌≡◌, IfOk, length, take};
-ghost use Rattle.streams.specs.Stream.{AtMost};
+ghost use Rattle.std.specs.Prelude.{◌≤◌, ◌-◌, ◌≡◌, IfOk, length, take, drop};
+ghost use Rattle.std.specs.Io.KnownBytes.{Appends, ReadConsumes, WriteAppends};
+ghost use Rattle.streams.specs.Stream.{AtMost, Gave};
 
 use std::io;
 use std::io::ErrorKind;
@@ -19,7 +20,8 @@ pub enum Read {
 
 // Makes one read, and makes it again where a signal broke it off. No bytes are the end of the input.
 fn read_once<R: io::Read>(reader: &mut R, buf: &mut [u8]) -> io::Result<usize>
-    ensures { IfOk result (λ n. n ≤ length buf.old) }
+    ensures bytes { IfOk result (λ n. n ≤ length buf.old) }
+    ensures known { ReadConsumes (R.remaining reader.old) (R.remaining reader.new) result buf.new }
 {
     for _ in 1..TRIES {
         match reader.read(buf) {
@@ -35,6 +37,7 @@ fn read_from<R: io::Read>(reader: &mut R, buf: &mut [u8], from: usize) -> io::Re
     requires { from ≤ length buf.old }
     ensures bytes { IfOk result (λ n. n ≤ length buf.old - from) }
     ensures before { take from buf.new ≡ take from buf.old }
+    ensures known { ReadConsumes (R.remaining reader.old) (R.remaining reader.new) result (drop from buf.new) }
 {
     read_once(reader, &mut buf[from..])
 }
@@ -46,7 +49,8 @@ fn tell_input(rt: &impl Eprint, error: io::Error) {
 
 // Reads until the input ends or the buffer is full. Where a read fails, it says why on standard error.
 pub fn read_all<R: io::Read>(reader: &mut R, rt: &impl Eprint, buf: &mut [u8]) -> Read
-    ensures { AtMost (length buf.old) result }
+    ensures bytes { AtMost (length buf.old) result }
+    ensures known { Gave (R.remaining reader.old) (R.remaining reader.new) buf.new result }
 {
     let mut done: usize = 0;
     while done < buf.len() {
@@ -64,7 +68,8 @@ pub fn read_all<R: io::Read>(reader: &mut R, rt: &impl Eprint, buf: &mut [u8]) -
 
 // Makes one write, and makes it again where a signal broke it off. It answers how many bytes went out.
 fn write_once<W: io::Write>(writer: &mut W, buf: &[u8]) -> io::Result<usize>
-    ensures { IfOk result (λ n. n ≤ length buf.now) }
+    ensures bytes { IfOk result (λ n. n ≤ length buf.now) }
+    ensures known { WriteAppends (W.contents writer.old) (W.contents writer.new) result buf.now }
 {
     for _ in 1..TRIES {
         match writer.write(buf) {
@@ -83,7 +88,8 @@ fn tell_output(rt: &impl Eprint, error: io::Error) {
 // Writes all of the buffer and answers how many bytes went out. Where a write fails or takes nothing, it stops there and says why
 // on standard error.
 pub fn write_all<W: io::Write>(writer: &mut W, rt: &impl Eprint, buf: &[u8]) -> usize
-    ensures { result ≤ length buf.now }
+    ensures bytes { result ≤ length buf.now }
+    ensures known { Appends (W.contents writer.old) (W.contents writer.new) (take result buf.now) }
 {
     let mut done: usize = 0;
     while done < buf.len() {
