@@ -53,7 +53,7 @@ fn answer(read: Read, input: &[u8], medium: &mut [u32], out: &mut [u8]) -> usize
 }
 
 // Runs the sheet on standard input; what can't be read or written is told on standard error.
-pub fn run(rt: &(impl Input + Print + Eprint)) {
+pub fn run(rt: &(impl Input + Print + Eprint + AllocGlobal)) {
     let mut input = input_space();
     let mut medium = words();
     let mut output = output_space();

@@ -42,13 +42,33 @@ fn read_from<R: io::Read>(reader: &mut R, buf: &mut [u8], from: usize) -> io::Re
     read_once(reader, &mut buf[from..])
 }
 
+// An error's words, without the number that follows those of the system.
+fn words_of(text: &str) -> &str {
+    match text.split_once(" (os error ") {
+        Some((words, _)) => words,
+        None => text,
+    }
+}
+
+// Says on standard error what failed and why.
+fn tell(rt: &(impl Eprint + AllocGlobal), what: &str, error: io::Error) -> io::Result<()> {
+    match format!(in rt.alloc(); "{error}") {
+        Ok(text) => eprintln!(rt; "{what}: {}", words_of(&text)),
+        Err(_) => eprintln!(rt; "{what}: {error}"),
+    }
+}
+
 // Says on standard error why a read failed.
-fn tell_input(rt: &impl Eprint, error: io::Error) {
-    let _ = eprintln!(rt; "standard input: {error}");
+fn tell_input(rt: &(impl Eprint + AllocGlobal), error: io::Error) {
+    let _ = tell(rt, "standard input", error);
 }
 
 // Reads until the input ends or the buffer is full. Where a read fails, it says why on standard error.
-pub fn read_all<R: io::Read>(reader: &mut R, rt: &impl Eprint, buf: &mut [u8]) -> Read
+pub fn read_all<R: io::Read>(
+    reader: &mut R,
+    rt: &(impl Eprint + AllocGlobal),
+    buf: &mut [u8],
+) -> Read
     ensures bytes { AtMost (length buf.old) result }
     ensures known { Gave (R.remaining reader.old) (R.remaining reader.new) buf.new result }
 {
@@ -81,13 +101,17 @@ fn write_once<W: io::Write>(writer: &mut W, buf: &[u8]) -> io::Result<usize>
 }
 
 // Says on standard error why a write failed.
-fn tell_output(rt: &impl Eprint, error: io::Error) {
-    let _ = eprintln!(rt; "standard output: {error}");
+fn tell_output(rt: &(impl Eprint + AllocGlobal), error: io::Error) {
+    let _ = tell(rt, "standard output", error);
 }
 
 // Writes all of the buffer and answers how many bytes went out. Where a write fails or takes nothing, it stops there and says why
 // on standard error.
-pub fn write_all<W: io::Write>(writer: &mut W, rt: &impl Eprint, buf: &[u8]) -> usize
+pub fn write_all<W: io::Write>(
+    writer: &mut W,
+    rt: &(impl Eprint + AllocGlobal),
+    buf: &[u8],
+) -> usize
     ensures bytes { result ≤ length buf.now }
     ensures known { Appends (W.contents writer.old) (W.contents writer.new) (take result buf.now) }
 {
