@@ -45,6 +45,7 @@ fn answer(read: Read, input: &[u8], medium: &mut [u32], out: &mut [u8]) -> usize
     ensures number { result ≡ length (answer_to read input.now medium.old).bytes }
     ensures bytes { out.new ≡ sets out.old 0 (answer_to read input.now medium.old).bytes }
     ensures words { medium.new ≡ (answer_to read input.now medium.old).sheet.medium }
+    ensures inside { result ≤ length out.old }
 {
     let Read::Bytes(n) = read else {
         return printing::put_question(out, 0);
