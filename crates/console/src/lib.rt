@@ -9,6 +9,7 @@ ghost use Rattle.streams.specs.Stream.{AtMost};
 ghost use Rattle.sheet.specs.Sheet.{max_input};
 ghost use Rattle.console.specs.Console.{answer_to};
 
+use std::io;
 use streams::Read;
 
 // A sheet has at most one byte less.
@@ -44,6 +45,7 @@ fn answer(read: Read, input: &[u8], medium: &mut [u32], out: &mut [u8]) -> usize
     ensures number { result ≡ length (answer_to read input.now medium.old).bytes }
     ensures bytes { out.new ≡ sets out.old 0 (answer_to read input.now medium.old).bytes }
     ensures words { medium.new ≡ (answer_to read input.now medium.old).sheet.medium }
+    ensures inside { result ≤ length out.old }
 {
     let Read::Bytes(n) = read else {
         return printing::put_question(out, 0);
@@ -51,11 +53,12 @@ fn answer(read: Read, input: &[u8], medium: &mut [u32], out: &mut [u8]) -> usize
     sheet::run(&input[..n], medium, out)
 }
 
-pub fn run() {
+// Runs the sheet on standard input; what can't be read or written is told on standard error.
+pub fn run(rt: &(impl Input + Print + Eprint + AllocGlobal)) {
     let mut input = input_space();
     let mut medium = words();
     let mut output = output_space();
-    let read = streams::read_all(&mut input);
+    let read = streams::read_all(&mut rt.reader(), rt, &mut input);
     let end = answer(read, &input, &mut medium, &mut output);
-    streams::write_all(&output[..end]);
+    streams::write_all(&mut io::writer(rt), rt, &output[..end]);
 }

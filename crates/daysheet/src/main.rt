@@ -1,6 +1,6 @@
 // Runs the sheet on standard input and prints its answers.
 #![tactic(auto)]
 
-fn main() {
-    console::run();
+fn main(rt: HostRuntime) {
+    console::run(&rt);
 }

@@ -1,6 +1,6 @@
 // 65,536 bytes: the longest sheet that is run.
 #![tactic(auto)]
 
-fn main() {
-    console::run();
+fn main(rt: HostRuntime) {
+    console::run(&rt);
 }

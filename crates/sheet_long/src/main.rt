@@ -1,6 +1,6 @@
 // 65,537 bytes: one more than a sheet may have.
 #![tactic(auto)]
 
-fn main() {
-    console::run();
+fn main(rt: HostRuntime) {
+    console::run(&rt);
 }

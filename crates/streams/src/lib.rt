@@ -1,11 +1,12 @@
-// This crate reads standard input whole and writes standard output whole. A signal is no error, and neither is a short read or a
-// short write.
+// This crate reads a reader whole and writes a buffer whole. A signal is no error, and neither is a short read or a short write.
 #![tactic(auto)]
 
-ghost use Rattle.std.specs.Prelude.{◌≤◌, ◌-◌, ◌≡◌, length, take};
-ghost use Rattle.streams.specs.Stream.{AtMost};
+ghost use Rattle.std.specs.Prelude.{◌≤◌, ◌-◌, ◌≡◌, IfOk, length, take, drop};
+ghost use Rattle.std.specs.Io.KnownBytes.{Appends, ReadConsumes, WriteAppends};
+ghost use Rattle.streams.specs.Stream.{AtMost, Gave};
 
-use libc::{EINTR, STDIN_FILENO, STDOUT_FILENO};
+use std::io;
+use std::io::ErrorKind;
 
 // A read or a write that signals break off so many times in a row has failed.
 const TRIES: usize = 65536;
@@ -18,87 +19,115 @@ pub enum Read {
 }
 
 // Makes one read, and makes it again where a signal broke it off. No bytes are the end of the input.
-fn read_once(buf: &mut [u8]) -> Read
-    ensures { AtMost (length buf.old) result }
+fn read_once<R: io::Read>(reader: &mut R, buf: &mut [u8]) -> io::Result<usize>
+    ensures bytes { IfOk result (λ n. n ≤ length buf.old) }
+    ensures known { ReadConsumes (R.remaining reader.old) (R.remaining reader.new) result buf.new }
 {
-    for _ in 0..TRIES {
-        let got = libc::read(STDIN_FILENO, buf);
-        if got >= 0 {
-            return Read::Bytes(io::count(got, buf));
-        }
-        if os::errno() != EINTR {
-            return Read::Failed;
+    for _ in 1..TRIES {
+        match reader.read(buf) {
+            Err(e) if e.kind() == ErrorKind::Interrupted => {}
+            read => return read,
         }
     }
-    Read::Failed
+    reader.read(buf)
 }
 
 // Makes one read into the buffer from a position on; the bytes before it stay as they are.
-fn read_from(buf: &mut [u8], from: usize) -> Read
+fn read_from<R: io::Read>(reader: &mut R, buf: &mut [u8], from: usize) -> io::Result<usize>
     requires { from ≤ length buf.old }
-    ensures bytes { AtMost (length buf.old - from) result }
+    ensures bytes { IfOk result (λ n. n ≤ length buf.old - from) }
     ensures before { take from buf.new ≡ take from buf.old }
+    ensures known { ReadConsumes (R.remaining reader.old) (R.remaining reader.new) result (drop from buf.new) }
 {
-    read_once(&mut buf[from..])
+    read_once(reader, &mut buf[from..])
+}
+
+// An error's words, without the number that follows those of the system.
+fn words_of(text: &str) -> &str {
+    match text.split_once(" (os error ") {
+        Some((words, _)) => words,
+        None => text,
+    }
+}
+
+// Says on standard error what failed and why.
+fn tell(rt: &(impl Eprint + AllocGlobal), what: &str, error: io::Error) -> io::Result<()> {
+    match format!(in rt.alloc(); "{error}") {
+        Ok(text) => eprintln!(rt; "{what}: {}", words_of(&text)),
+        Err(_) => eprintln!(rt; "{what}: {error}"),
+    }
 }
 
 // Says on standard error why a read failed.
-fn tell_input() {
-    os::fail(b"standard input");
+fn tell_input(rt: &(impl Eprint + AllocGlobal), error: io::Error) {
+    let _ = tell(rt, "standard input", error);
 }
 
 // Reads until the input ends or the buffer is full. Where a read fails, it says why on standard error.
-pub fn read_all(buf: &mut [u8]) -> Read
-    ensures { AtMost (length buf.old) result }
+pub fn read_all<R: io::Read>(
+    reader: &mut R,
+    rt: &(impl Eprint + AllocGlobal),
+    buf: &mut [u8],
+) -> Read
+    ensures bytes { AtMost (length buf.old) result }
+    ensures known { Gave (R.remaining reader.old) (R.remaining reader.new) buf.new result }
 {
     let mut done: usize = 0;
     while done < buf.len() {
-        let Read::Bytes(n) = read_from(buf, done) else {
-            tell_input();
-            return Read::Failed;
-        };
-        if n == 0 {
-            return Read::Bytes(done);
+        match read_from(reader, buf, done) {
+            Ok(0) => return Read::Bytes(done),
+            Ok(n) => done += n,
+            Err(e) => {
+                tell_input(rt, e);
+                return Read::Failed;
+            }
         }
-        done += n;
     }
     Read::Bytes(done)
 }
 
-// Makes one write, and makes it again where a signal broke it off. It answers how many bytes went out, 0 where it failed.
-fn write_once(buf: &[u8]) -> usize
-    ensures { result ≤ length buf.now }
+// Makes one write, and makes it again where a signal broke it off. It answers how many bytes went out.
+fn write_once<W: io::Write>(writer: &mut W, buf: &[u8]) -> io::Result<usize>
+    ensures bytes { IfOk result (λ n. n ≤ length buf.now) }
+    ensures known { WriteAppends (W.contents writer.old) (W.contents writer.new) result buf.now }
 {
-    for _ in 0..TRIES {
-        let put = libc::write(STDOUT_FILENO, buf);
-        if put >= 0 {
-            return io::count(put, buf);
-        }
-        if os::errno() != EINTR {
-            return 0;
+    for _ in 1..TRIES {
+        match writer.write(buf) {
+            Err(e) if e.kind() == ErrorKind::Interrupted => {}
+            written => return written,
         }
     }
-    0
+    writer.write(buf)
 }
 
 // Says on standard error why a write failed.
-fn tell_output() {
-    os::fail(b"standard output");
+fn tell_output(rt: &(impl Eprint + AllocGlobal), error: io::Error) {
+    let _ = tell(rt, "standard output", error);
 }
 
 // Writes all of the buffer and answers how many bytes went out. Where a write fails or takes nothing, it stops there and says why
 // on standard error.
-pub fn write_all(buf: &[u8]) -> usize
-    ensures { result ≤ length buf.now }
+pub fn write_all<W: io::Write>(
+    writer: &mut W,
+    rt: &(impl Eprint + AllocGlobal),
+    buf: &[u8],
+) -> usize
+    ensures bytes { result ≤ length buf.now }
+    ensures known { Appends (W.contents writer.old) (W.contents writer.new) (take result buf.now) }
 {
     let mut done: usize = 0;
     while done < buf.len() {
-        let put = write_once(&buf[done..]);
-        if put == 0 {
-            tell_output();
-            return done;
+        match write_once(writer, &buf[done..]) {
+            Ok(0) => {
+                tell_output(rt, io::Error::from(ErrorKind::WriteZero));
+                return done;
+            }
+            Ok(n) => done += n,
+            Err(e) => {
+                tell_output(rt, e);
+                return done;
+            }
         }
-        done += put;
     }
     done
 }

@@ -2,19 +2,27 @@
 ghost use Rattle.std.specs.Prelude.{◌<◌};
 
 use batch_answer::Batch;
+use std::io;
+use std::io::Write;
 use table::Table;
 
 // The refusal of tenant 0's batch of 256 times id 2, or of one more.
-fn longest(table: Table, medium: &[u32], over: bool, text: &[u8]) -> Table {
+fn longest<W: Write>(
+    out: &mut W,
+    table: Table,
+    medium: &[u32],
+    over: bool,
+    text: &[u8],
+) -> io::Result<Table> {
     let ids: [u32; 257] = [2; 257];
     if over {
         let looked = batch::lookup_batch(table, medium, 0, &ids);
-        vectors_calls::print_number(text, looked.batch.refusal as u64);
-        return looked.table;
+        vectors_calls::print_number(out, text, looked.batch.refusal as u64)?;
+        return Ok(looked.table);
     }
     let looked = batch::lookup_batch(table, medium, 0, &ids[..256]);
-    vectors_calls::print_number(text, looked.batch.refusal as u64);
-    looked.table
+    vectors_calls::print_number(out, text, looked.batch.refusal as u64)?;
+    Ok(looked.table)
 }
 
 fn wide(x: u32) -> u64 {
@@ -35,17 +43,30 @@ fn part(batch: Batch, letter: u8, i: usize) -> u64
 
 // 3 is refusal, value and opened count at a position; 6 and 7 are the batches of 256 and of 257 ids. The table after the batch is
 // handed back.
-pub fn show(table: Table, medium: &[u32], letter: u8, numbers: [u32; 8], text: &[u8]) -> Table {
+pub fn show<W: Write>(
+    out: &mut W,
+    table: Table,
+    medium: &[u32],
+    letter: u8,
+    numbers: [u32; 8],
+    text: &[u8],
+) -> io::Result<Table> {
     if letter >= b'6' {
-        return longest(table, medium, letter == b'7', text);
+        return longest(out, table, medium, letter == b'7', text);
     }
     let i = (numbers[5] % 256) as usize;
     let looked = batch::lookup_batch(table, medium, numbers[6], &numbers[..5]);
     let batch = looked.batch;
     if letter == b'3' {
-        vectors_calls::print_three(text, batch.refusals[i], batch.values[i], batch.opened[i]);
+        vectors_calls::print_three(
+            out,
+            text,
+            batch.refusals[i],
+            batch.values[i],
+            batch.opened[i],
+        )?;
     } else {
-        vectors_calls::print_number(text, part(batch, letter, i));
+        vectors_calls::print_number(out, text, part(batch, letter, i))?;
     }
-    looked.table
+    Ok(looked.table)
 }

@@ -11,20 +11,28 @@ ghost use Rattle.std.specs.Prelude.{◌≡◌, length};
 mod batches;
 mod lines;
 
-use libc::STDIN_FILENO;
+use std::io;
+use std::io::{Read, Write};
 use table::Table;
 
 // A digit is for a part of a batch, a small letter for the method on plain numbers, and a capital letter for a call.
-fn run_case(table: Table, medium: &mut [u32], letter: u8, numbers: [u32; 8], text: &[u8]) -> Table {
+fn run_case<W: Write>(
+    out: &mut W,
+    table: Table,
+    medium: &mut [u32],
+    letter: u8,
+    numbers: [u32; 8],
+    text: &[u8],
+) -> io::Result<Table> {
     if letter <= b'9' {
-        return batches::show(table, medium, letter, numbers, text);
+        return batches::show(out, table, medium, letter, numbers, text);
     }
     if letter >= b'a' {
-        vectors_calls::show_draw(letter, numbers, text);
-        return table;
+        vectors_calls::show_draw(out, letter, numbers, text)?;
+        return Ok(table);
     }
     vectors_calls::run_call(
-        table, medium, letter, numbers[0], numbers[1], numbers[2], numbers[3], text,
+        out, table, medium, letter, numbers[0], numbers[1], numbers[2], numbers[3], text,
     )
 }
 
@@ -35,7 +43,7 @@ fn blank() -> [u32; 768]
 }
 
 // N is for a number of blank words.
-fn run_all(input: &[u8]) {
+fn run_all<W: Write>(out: &mut W, input: &[u8]) -> io::Result<()> {
     let mut medium = blank();
     let mut words: u32 = 0;
     let mut table = vectors_calls::start(1);
@@ -50,19 +58,21 @@ fn run_all(input: &[u8]) {
         } else {
             let n = (words % 769) as usize;
             table = run_case(
+                out,
                 table,
                 &mut medium[..n],
                 line.letter,
                 numbers,
                 &input[at..end],
-            );
+            )?;
         }
         at = line.next;
     }
+    Ok(())
 }
 
-fn main() {
-    let mut input = io::large_buffer();
-    let n = io::read_full(STDIN_FILENO, &mut input);
-    run_all(&input[..n]);
+fn main(rt: HostRuntime) -> io::Result<()> {
+    let mut input = Vec::new(rt.alloc());
+    rt.reader().read_to_end(&mut input)?;
+    run_all(&mut io::writer(&rt), &input)
 }

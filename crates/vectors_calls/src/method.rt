@@ -4,14 +4,14 @@ ghost use Rattle.limits.specs.Limits.{max_capacity};
 
 use crate::print;
 use placement::Fraction;
+use std::io;
+use std::io::Write;
 
 // A seed after this many rounds.
 fn rounds(seed: u32, n: u32) -> u32 {
     let mut s = seed;
-    let mut i: u32 = 0;
-    while i < n {
+    for _ in 0..n {
         s = draws::round(s);
-        i += 1;
     }
     s
 }
@@ -47,14 +47,19 @@ fn at_least(a: u32, b: u32, c: u32, d: u32) -> bool {
 }
 
 // e tells whether a fraction exceeds a draw, and l whether it is at least another; the other letters give numbers.
-pub fn show_draw(letter: u8, numbers: [u32; 8], text: &[u8]) {
+pub fn show_draw<W: Write>(
+    out: &mut W,
+    letter: u8,
+    numbers: [u32; 8],
+    text: &[u8],
+) -> io::Result<()> {
     let a = numbers[0];
     let b = numbers[1];
     let c = numbers[2];
     let d = numbers[3];
     match letter {
-        b'e' => print::test(text, exceeds(a, b, c)),
-        b'l' => print::test(text, at_least(a, b, c, d)),
-        _ => print::print_number(text, number(letter, a, b, c, d)),
+        b'e' => print::test(out, text, exceeds(a, b, c)),
+        b'l' => print::test(out, text, at_least(a, b, c, d)),
+        _ => print::print_number(out, text, number(letter, a, b, c, d)),
     }
 }

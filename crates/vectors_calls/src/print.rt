@@ -1,80 +1,79 @@
 // Lines of output: a text, then numbers, or yes or no. Nothing is printed where there is no text.
 use replies::Reply;
+use std::io;
+use std::io::Write;
 
-fn first(text: &[u8], n: u64) {
-    io::write_all(1, text);
-    io::print_decimal(1, n);
+fn first<W: Write>(out: &mut W, text: &[u8], n: u64) -> io::Result<()> {
+    out.write_all(text)?;
+    write!(out, "{n}")
 }
 
-fn more(n: u64) {
-    io::write_all(1, b" ");
-    io::print_decimal(1, n);
+fn more<W: Write>(out: &mut W, n: u64) -> io::Result<()> {
+    write!(out, " {n}")
 }
 
 pub fn wide(x: u32) -> u64 {
     x as u64
 }
 
-fn end() {
-    io::write_all(1, b"\n");
+fn end<W: Write>(out: &mut W) -> io::Result<()> {
+    out.write_all(b"\n")
 }
 
-pub fn print_number(text: &[u8], n: u64) {
+pub fn print_number<W: Write>(out: &mut W, text: &[u8], n: u64) -> io::Result<()> {
     if text.len() == 0 {
-        return;
+        return Ok(());
     }
-    first(text, n);
-    end();
+    first(out, text, n)?;
+    end(out)
 }
 
-pub fn print_two(text: &[u8], a: u32, b: usize) {
+pub fn print_two<W: Write>(out: &mut W, text: &[u8], a: u32, b: usize) -> io::Result<()> {
     if text.len() == 0 {
-        return;
+        return Ok(());
     }
-    first(text, a as u64);
-    more(b as u64);
-    end();
+    first(out, text, a as u64)?;
+    more(out, b as u64)?;
+    end(out)
 }
 
 // Prints a line of words, a blank before each.
-pub fn print_words(text: &[u8], words: &[u32]) {
-    io::write_all(1, text);
-    let mut i: usize = 0;
-    while i < words.len() {
-        more(wide(words[i]));
-        i += 1;
+pub fn print_words<W: Write>(out: &mut W, text: &[u8], words: &[u32]) -> io::Result<()> {
+    out.write_all(text)?;
+    for word in words {
+        more(out, wide(*word))?;
     }
-    end();
+    end(out)
 }
 
-pub fn print_three(text: &[u8], a: u32, b: u32, c: u32) {
+pub fn print_three<W: Write>(out: &mut W, text: &[u8], a: u32, b: u32, c: u32) -> io::Result<()> {
     if text.len() == 0 {
-        return;
+        return Ok(());
     }
-    first(text, a as u64);
-    more(b as u64);
-    more(c as u64);
-    end();
+    first(out, text, a as u64)?;
+    more(out, b as u64)?;
+    more(out, c as u64)?;
+    end(out)
 }
 
-pub fn test(text: &[u8], yes: bool) {
-    io::write_all(1, text);
+pub fn test<W: Write>(out: &mut W, text: &[u8], yes: bool) -> io::Result<()> {
+    out.write_all(text)?;
     if yes {
-        io::write_all(1, b"yes\n");
+        out.write_all(b"yes\n")
     } else {
-        io::write_all(1, b"no\n");
+        out.write_all(b"no\n")
     }
 }
 
 // Prints refusal, server, value, opened and invalidated.
-pub fn reply(text: &[u8], r: Reply) {
+pub fn reply<W: Write>(out: &mut W, text: &[u8], r: Reply) -> io::Result<()> {
     if text.len() == 0 {
-        return;
+        return Ok(());
     }
-    first(text, r.refusal as u64);
-    more(r.server as u64);
-    more(r.value as u64);
-    more(r.opened as u64);
-    more(r.invalidated as u64);
-    end();
+    first(out, text, r.refusal as u64)?;
+    more(out, r.server as u64)?;
+    more(out, r.value as u64)?;
+    more(out, r.opened as u64)?;
+    more(out, r.invalidated as u64)?;
+    end(out)
 }
