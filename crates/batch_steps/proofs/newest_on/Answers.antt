@@ -1,10 +1,9 @@
 -- `batch_steps::newest_on` meets its contract. The invariant: the highest live entry is that of the entries left.
-use Prim.Native.Nat.{◌-◌, ◌≤◌}
-use mathlib.Core.Path.{◌≡◌, refl, sym, ap, ◌∙◌}
+use Prim.Native.Nat.{◌-◌}
+use mathlib.Core.Path.{◌≡◌, sym, ap, ◌∙◌}
 use native.Mathlib.Omega.{arith}
 use borrow.Author.Rules.{rules}
 use Rattle.lists.specs.Below.{highest}
-use Rattle.medium.specs.Entry.{live}
 use Rattle.medium.proofs.Places.{entry-inside}
 use Rattle.search.proofs.Finding.{newest-skipped, newest-here}
 use Rattle.batch_steps.specs.Steps.{newest_by}

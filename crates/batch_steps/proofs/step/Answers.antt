@@ -1,7 +1,5 @@
 -- `batch_steps::step` meets its contract: a law on plain values for each of its ends.
 use native.Mathlib.Omega.{arith}
-use borrow.Author.Rules.{rules}
-use borrow.Author.Tests.{not-true, not-false}
 use Rattle.batch_steps.proofs.Stepping.{newest-used, step-settled, step-skipped, step-passed, step-met}
 use Rattle.batch_steps.proofs.step.Goals as goal
 

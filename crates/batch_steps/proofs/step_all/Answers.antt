@@ -1,12 +1,12 @@
 -- `batch_steps::step_all` meets its contract. The invariant: the parts so far are stepped, the rest as they were.
-use Prim.Native.Nat.{◌-◌, ◌≤◌}
+use Prim.Native.Nat.{◌≤◌}
 use mathlib.Core.Path.{◌≡◌, refl, ap}
 use native.Mathlib.Omega.{arith}
 use lib.ListN.{length}
 use borrow.Author.Rules.{rules}
 use Rattle.lists.specs.Below.{nth, set_below}
 use Rattle.batch_steps.specs.declared.Progress.{Progress}
-use Rattle.batch_steps.specs.Steps.{with_parts, stepped_at, stepped_all}
+use Rattle.batch_steps.specs.Steps.{with_parts, stepped_all}
 use Rattle.batch_steps.proofs.Stepping.{part-here, part-more}
 use Rattle.batch_steps.proofs.step_all.Goals as goal
 

@@ -32,7 +32,7 @@ unfolding plan_number plan_server write_rows
 returns-in-Refused-clause-number c =
     let shared = asked_rows ((table_of c.args.shape c.args.columns)) (c.args.medium.now) (c.args.tenant) (c.args.id) ((leb content_range c.args.value)) in
     let rows = write_rows ((table_of c.args.shape c.args.columns)) (c.args.medium.now) (c.args.tenant) (c.args.id) c.args.value in
-    let e = check-refused (shared) c.asked-check.ensures c.in-Refused.is in (plan-refused (rows) _ _ (e ∙ sym (first-earlier (shared) _ (asked-numbered ((table_of c.args.shape c.args.columns)) (c.args.medium.now) (c.args.tenant) (c.args.id) ((leb content_range c.args.value))) (λ z. number-not-zero _ (e ∙ z))))).0
+    let e = check-refused (shared) c.asked-check.ensures c.in-Refused.is in (plan-refused (rows) _ 0 (e ∙ sym (first-earlier (shared) _ (asked-numbered ((table_of c.args.shape c.args.columns)) (c.args.medium.now) (c.args.tenant) (c.args.id) ((leb content_range c.args.value))) (λ z. number-not-zero _ (e ∙ z))))).0
 
 pub returns-in-Refused-clause-server : goal.returns-in-Refused-clause-server
 unfolding plan_number plan_server write_rows
@@ -80,7 +80,7 @@ returns-then-entry-capacity-clause-number c =
     let shared = asked_rows ((table_of c.args.shape c.args.columns)) (c.args.medium.now) (c.args.tenant) (c.args.id) ((leb content_range c.args.value)) in
     let accepted : first_of (shared) ≡ 0 = check-accepted (shared) c.asked-check.ensures c.in_default.is in
     let rest : first_of (rows) ≡ first_of (entry_rows ((table_of c.args.shape c.args.columns)) (c.args.medium.now) (c.args.id)) = first-later (shared) _ (asked-numbered ((table_of c.args.shape c.args.columns)) (c.args.medium.now) (c.args.tenant) (c.args.id) ((leb content_range c.args.value))) (accepted) in
-    let picked : c.write_server-server.result ≡ target ((table_of c.args.shape c.args.columns)) (c.args.id) = c.write_server-server.ensures in (plan-refused (rows) ServerFull _ (sym (rest ∙ entry-full ((table_of c.args.shape c.args.columns)) (c.args.medium.now) (c.args.id) c.write_server-server.result (picked) (eq-eqb _ _ c.if-entry-capacity.true)))).0
+    let picked : c.write_server-server.result ≡ target ((table_of c.args.shape c.args.columns)) (c.args.id) = c.write_server-server.ensures in (plan-refused (rows) ServerFull 0 (sym (rest ∙ entry-full ((table_of c.args.shape c.args.columns)) (c.args.medium.now) (c.args.id) c.write_server-server.result (picked) (eq-eqb _ _ c.if-entry-capacity.true)))).0
 
 pub returns-then-entry-capacity-clause-server : goal.returns-then-entry-capacity-clause-server
 unfolding plan_number plan_server number_of target write_rows
@@ -128,7 +128,7 @@ returns-then-not-is_blank-clause-number c =
     let shared = asked_rows ((table_of c.args.shape c.args.columns)) (c.args.medium.now) (c.args.tenant) (c.args.id) ((leb content_range c.args.value)) in
     let accepted : first_of (shared) ≡ 0 = check-accepted (shared) c.asked-check.ensures c.in_default.is in
     let rest : first_of (rows) ≡ first_of (entry_rows ((table_of c.args.shape c.args.columns)) (c.args.medium.now) (c.args.id)) = first-later (shared) _ (asked-numbered ((table_of c.args.shape c.args.columns)) (c.args.medium.now) (c.args.tenant) (c.args.id) ((leb content_range c.args.value))) (accepted) in
-    let picked : c.write_server-server.result ≡ target ((table_of c.args.shape c.args.columns)) (c.args.id) = c.write_server-server.ensures in (plan-refused (rows) NotBlank _ (sym ((let tested' : first_of (rows) ≡ first_of (7 when not false ∷ []) = let e : c.is_blank.result ≡ false = c.if-not-is_blank.true in rest
+    let picked : c.write_server-server.result ≡ target ((table_of c.args.shape c.args.columns)) (c.args.id) = c.write_server-server.ensures in (plan-refused (rows) NotBlank 0 (sym ((let tested' : first_of (rows) ≡ first_of (7 when not false ∷ []) = let e : c.is_blank.result ≡ false = c.if-not-is_blank.true in rest
     ∙ entry-tested ((table_of c.args.shape c.args.columns)) (c.args.medium.now) (c.args.id) c.write_server-server.result (picked) false (ne_eqb _ _ c.if-entry-capacity.false)
     (ap (λ (from : ℕ). blank_run (c.args.medium.now) from 3) (sym c.entry_at-at.ensures) ∙ sym c.is_blank.ensures ∙ e) in tested')))).0
 
