@@ -1,5 +1,4 @@
 -- `deletion::delete` meets its contract: no delete has more burns than it hands on.
-use borrow.Author.Rules.{rules}
 use Rattle.deletion.proofs.Whole.{delete-plain}
 use Rattle.deletion.proofs.delete.Goals as goal
 

@@ -1,12 +1,8 @@
 -- `deletion::delete_in` meets its contract: what the tests say, and the marks of every live entry on every readable server.
 use mathlib.Core.Path.{◌≡◌}
-use mathlib.Core.List.{List}
-use Prim.Native.Nat.{ℕ}
 use mathlib.Core.Bool.{false}
-use borrow.Author.Rules.{rules}
-use Rattle.table.specs.declared.Table.{Table}
 use Rattle.table.specs.Parts.{table_of}
-use Rattle.replies.specs.Refusal.{Row, first_of}
+use Rattle.replies.specs.Refusal.{first_of}
 use Rattle.replies.specs.Reply.{number_of, reply_of_delete}
 use Rattle.replies.proofs.Answers.{check-refused, check-accepted}
 use Rattle.checks.specs.Ready.{asked_rows}

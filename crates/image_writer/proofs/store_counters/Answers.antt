@@ -17,15 +17,11 @@ unfolding join_below
 loop-i-init c = (search rules, refl, refl)
 
 pub tagged-requires : goal.tagged-requires
-tagged-requires c = (search rules, (let small' : nth c.args.counters.now c.loop-i.i < 1073741824 = counter-small c.args.counters.now c.requires.counters_value c.loop-i.i (omega (arith, c.requires.counters_len, c.loop-i-test.true)) in small'))
+tagged-requires c =
+    let small : nth c.args.counters.now c.loop-i.i < 1073741824 = counter-small c.args.counters.now c.requires.counters_value c.loop-i.i (omega (arith, c.requires.counters_len, c.loop-i-test.true)) in
+    (search rules, small)
 
 pub loop-i-preserved : goal.loop-i-preserved
 loop-i-preserved c =
-    let a = c.args in
-    let more = stored_more 1 (λ i. counter_word (nth a.counters.now i)) (λ k. refl) a.destination.now c.loop-i.destination a.from c.loop-i.i (a.from + c.loop-i.i) c.loop-i.invariant.1 (omega arith) in
+    let more = stored_more 1 (λ i. counter_word (nth c.args.counters.now i)) (λ k. refl) c.args.destination.now c.loop-i.destination c.args.from c.loop-i.i (c.args.from + c.loop-i.i) c.loop-i.invariant.1 (omega arith) in
     (search rules, rw c.tagged.ensures more, simp length-set c.loop-i.invariant.2)
-
-pub returns : goal.returns
-returns c =
-    let e : c.loop-i.i ≡ tenants = omega arith in
-    rw e at c.loop-i.invariant.1

@@ -14,7 +14,7 @@ use Rattle.image_writer.proofs.store_counters.Given as goal
 
 abbrev pub invariant-loop-i : goal.invariant-loop-i
 invariant-loop-i l =
-    (l.i ≤ length l.counters) × (l.destination ≡ sets l.initial.destination l.from (join_below (λ l.i. counter_word (nth l.counters l.i)) l.i)) × (length l.destination ≡ length l.initial.destination)
+    (l.i ≤ length l.counters) × (l.destination ≡ sets l.initial.destination l.from (join_below (λ i. counter_word (nth l.counters i)) l.i)) × (length l.destination ≡ length l.initial.destination)
 
 abbrev pub decreases-loop-i : goal.decreases-loop-i
 decreases-loop-i l = length l.counters - l.i

@@ -22,16 +22,16 @@ loop-k-init c = (search rules, (sound-facts _ c.requires.columns_value).few, ref
 
 pub store_server-requires-clause-weight_lt_content_range : goal.store_server-requires-clause-weight_lt_content_range
 store_server-requires-clause-weight_lt_content_range c =
-    let f = (let here' : SoundServer (table_of c.args.shape c.args.columns) c.loop-k.k = (sound-facts _ c.requires.columns_value).server c.loop-k.k c.loop-k-test.true in here') in
+    let here : SoundServer (table_of c.args.shape c.args.columns) c.loop-k.k = (sound-facts _ c.requires.columns_value).server c.loop-k.k c.loop-k-test.true in
+    let f = here in
     let high = (sound-facts _ c.requires.columns_value).high in
     let v = c.loop-k.invariant in (omega (arith, f.light), omega (arith, f.fits), omega (arith, f.proper, f.small), omega (arith, f.small))
 
 pub loop-k-preserved : goal.loop-k-preserved
 loop-k-preserved c =
-    let a = c.args in
     let k = c.loop-k.k in (
       search rules,
       search rules,
-      c.store_server.ensures ∙ stored_more part_words (part_of a.columns) (λ k. refl) a.destination.now c.loop-k.destination head_words k (part_at k) c.loop-k.invariant.2 refl,
-      c.store_server.auto.0 ∙ c.loop-k.invariant.3,
+      c.store_server.ensures ∙ stored_more part_words (part_of c.args.columns) (λ k. refl) c.args.destination.now c.loop-k.destination head_words k (part_at k) c.loop-k.invariant.2 refl,
+      c.store_server.auto.destination ∙ c.loop-k.invariant.3,
     )

@@ -4,6 +4,7 @@ use borrow.Author.Tests.{eq-eqb, ne_eqb}
 use Rattle.replies.specs.Number.{add_server_number}
 use Rattle.letters.specs.Letter.{start_letter}
 use Rattle.parsing.specs.Line.{line_by}
+use native.Mathlib.Omega.{arith}
 use Rattle.parsing.proofs.line_by.Goals as goal
 
 pub returns-then-letter-eq-START : goal.returns-then-letter-eq-START
@@ -26,6 +27,6 @@ returns-in_default c =
     rw (
       ne_eqb _ start_letter c.if-letter-eq-START.false,
       ← c.number_for-number.ensures,
-      ne_eqb _ 0 c.in-0.rest.0.1,
-      ne_eqb _ add_server_number c.in-0.rest.1,
+      ne_eqb c.number_for-number.result 0 (omega arith),
+      ne_eqb c.number_for-number.result add_server_number (omega arith),
     )

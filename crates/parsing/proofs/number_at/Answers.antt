@@ -12,6 +12,7 @@ use Rattle.lists.specs.Below.{nth}
 use Rattle.parsing.specs.Line.{is_digit, digit_run, value_of}
 use Rattle.parsing.proofs.Reading.{digit, below-digits, above-digits, past-line, next-value, next-bound, ten-small, run_left, run-all, run_on, run-stops, too_long, no_digit, too-high, number_read}
 use Rattle.parsing.proofs.number_at.Goals as goal
+use Rattle.parsing.proofs.number_at.Goals.{else-loop-digits-test, then-loop-digits-test+then-b-lt48, then-loop-digits-test+else-b-lt48+then-b-gt57}
 
 pub loop-digits-init : goal.loop-digits-init
 unfolding value_of
@@ -30,21 +31,24 @@ loop-digits-preserved c = (
 )
 
 pub returns-then-digits-eq0 : goal.returns-then-digits-eq0
-returns-then-digits-eq0 c = no_digit (c.args.line.now) (c.args.from) (c.loop-digits.digits) ((let run' : digit_run (c.args.line.now) (c.args.from) 11 ≡ c.loop-digits.digits = ⊎_elim
-    (λ w. (let stops' : digit_run (c.args.line.now) (c.args.from) 11 ≡ c.loop-digits.digits = let d : is_digit (nth (c.args.line.now) (c.args.from + c.loop-digits.digits)) ≡ false = (past-line (c.args.line.now) (c.args.from + c.loop-digits.digits) (omega arith)) in c.loop-digits.invariant.4 ∙ run-stops (c.args.line.now) (c.args.from) (c.loop-digits.digits) c.loop-digits.invariant.0 d in stops'))
-    (⊎_elim (λ w. (let stops' : digit_run (c.args.line.now) (c.args.from) 11 ≡ c.loop-digits.digits = let d : is_digit (nth (c.args.line.now) (c.args.from + c.loop-digits.digits)) ≡ false = (below-digits _ w.2.taken) in c.loop-digits.invariant.4 ∙ run-stops (c.args.line.now) (c.args.from) (c.loop-digits.digits) c.loop-digits.invariant.0 d in stops')) (λ w. (let stops' : digit_run (c.args.line.now) (c.args.from) 11 ≡ c.loop-digits.digits = let d : is_digit (nth (c.args.line.now) (c.args.from + c.loop-digits.digits)) ≡ false = (above-digits _ w.3.taken) in c.loop-digits.invariant.4 ∙ run-stops (c.args.line.now) (c.args.from) (c.loop-digits.digits) c.loop-digits.invariant.0 d in stops')))
-    c.loop-digits-test.branch in run')) c.if-digits-eq0.true
+returns-then-digits-eq0 c = no_digit (c.args.line.now) (c.args.from) (c.loop-digits.digits) ((let run' : digit_run (c.args.line.now) (c.args.from) 11 ≡ c.loop-digits.digits = (elim c.loop-digits-test.branch [
+    | else-loop-digits-test w ↦ (let stops' : digit_run (c.args.line.now) (c.args.from) 11 ≡ c.loop-digits.digits = let d : is_digit (nth (c.args.line.now) (c.args.from + c.loop-digits.digits)) ≡ false = (past-line (c.args.line.now) (c.args.from + c.loop-digits.digits) (omega arith)) in c.loop-digits.invariant.4 ∙ run-stops (c.args.line.now) (c.args.from) (c.loop-digits.digits) c.loop-digits.invariant.0 d in stops')
+    | then-loop-digits-test+then-b-lt48 w ↦ (let stops' : digit_run (c.args.line.now) (c.args.from) 11 ≡ c.loop-digits.digits = let d : is_digit (nth (c.args.line.now) (c.args.from + c.loop-digits.digits)) ≡ false = (below-digits _ w.if-b-lt48.true) in c.loop-digits.invariant.4 ∙ run-stops (c.args.line.now) (c.args.from) (c.loop-digits.digits) c.loop-digits.invariant.0 d in stops')
+    | then-loop-digits-test+else-b-lt48+then-b-gt57 w ↦ (let stops' : digit_run (c.args.line.now) (c.args.from) 11 ≡ c.loop-digits.digits = let d : is_digit (nth (c.args.line.now) (c.args.from + c.loop-digits.digits)) ≡ false = (above-digits _ w.if-b-gt57.true) in c.loop-digits.invariant.4 ∙ run-stops (c.args.line.now) (c.args.from) (c.loop-digits.digits) c.loop-digits.invariant.0 d in stops')
+    ]) in run')) c.if-digits-eq0.true
 
 pub returns-then-value-ge4294967296 : goal.returns-then-value-ge4294967296
 returns-then-value-ge4294967296 c =
-    too-high (c.args.line.now) (c.args.from) (c.loop-digits.digits) ((let run' : digit_run (c.args.line.now) (c.args.from) 11 ≡ c.loop-digits.digits = ⊎_elim
-    (λ w. (let stops' : digit_run (c.args.line.now) (c.args.from) 11 ≡ c.loop-digits.digits = let d : is_digit (nth (c.args.line.now) (c.args.from + c.loop-digits.digits)) ≡ false = (past-line (c.args.line.now) (c.args.from + c.loop-digits.digits) (omega arith)) in c.loop-digits.invariant.4 ∙ run-stops (c.args.line.now) (c.args.from) (c.loop-digits.digits) c.loop-digits.invariant.0 d in stops'))
-    (⊎_elim (λ w. (let stops' : digit_run (c.args.line.now) (c.args.from) 11 ≡ c.loop-digits.digits = let d : is_digit (nth (c.args.line.now) (c.args.from + c.loop-digits.digits)) ≡ false = (below-digits _ w.2.taken) in c.loop-digits.invariant.4 ∙ run-stops (c.args.line.now) (c.args.from) (c.loop-digits.digits) c.loop-digits.invariant.0 d in stops')) (λ w. (let stops' : digit_run (c.args.line.now) (c.args.from) 11 ≡ c.loop-digits.digits = let d : is_digit (nth (c.args.line.now) (c.args.from + c.loop-digits.digits)) ≡ false = (above-digits _ w.3.taken) in c.loop-digits.invariant.4 ∙ run-stops (c.args.line.now) (c.args.from) (c.loop-digits.digits) c.loop-digits.invariant.0 d in stops')))
-    c.loop-digits-test.branch in run')) (c.loop-digits.value) c.loop-digits.invariant.3 (omega (arith, c.if-digits-eq0.false)) c.loop-digits.invariant.0 c.if-value-ge4294967296.true
+    too-high (c.args.line.now) (c.args.from) (c.loop-digits.digits) ((let run' : digit_run (c.args.line.now) (c.args.from) 11 ≡ c.loop-digits.digits = (elim c.loop-digits-test.branch [
+    | else-loop-digits-test w ↦ (let stops' : digit_run (c.args.line.now) (c.args.from) 11 ≡ c.loop-digits.digits = let d : is_digit (nth (c.args.line.now) (c.args.from + c.loop-digits.digits)) ≡ false = (past-line (c.args.line.now) (c.args.from + c.loop-digits.digits) (omega arith)) in c.loop-digits.invariant.4 ∙ run-stops (c.args.line.now) (c.args.from) (c.loop-digits.digits) c.loop-digits.invariant.0 d in stops')
+    | then-loop-digits-test+then-b-lt48 w ↦ (let stops' : digit_run (c.args.line.now) (c.args.from) 11 ≡ c.loop-digits.digits = let d : is_digit (nth (c.args.line.now) (c.args.from + c.loop-digits.digits)) ≡ false = (below-digits _ w.if-b-lt48.true) in c.loop-digits.invariant.4 ∙ run-stops (c.args.line.now) (c.args.from) (c.loop-digits.digits) c.loop-digits.invariant.0 d in stops')
+    | then-loop-digits-test+else-b-lt48+then-b-gt57 w ↦ (let stops' : digit_run (c.args.line.now) (c.args.from) 11 ≡ c.loop-digits.digits = let d : is_digit (nth (c.args.line.now) (c.args.from + c.loop-digits.digits)) ≡ false = (above-digits _ w.if-b-gt57.true) in c.loop-digits.invariant.4 ∙ run-stops (c.args.line.now) (c.args.from) (c.loop-digits.digits) c.loop-digits.invariant.0 d in stops')
+    ]) in run')) (c.loop-digits.value) c.loop-digits.invariant.3 (omega (arith, c.if-digits-eq0.false)) c.loop-digits.invariant.0 c.if-value-ge4294967296.true
 
 pub returns : goal.returns
 returns c =
-    number_read (c.args.line.now) (c.args.from) (c.loop-digits.digits) ((let run' : digit_run (c.args.line.now) (c.args.from) 11 ≡ c.loop-digits.digits = ⊎_elim
-    (λ w. (let stops' : digit_run (c.args.line.now) (c.args.from) 11 ≡ c.loop-digits.digits = let d : is_digit (nth (c.args.line.now) (c.args.from + c.loop-digits.digits)) ≡ false = (past-line (c.args.line.now) (c.args.from + c.loop-digits.digits) (omega arith)) in c.loop-digits.invariant.4 ∙ run-stops (c.args.line.now) (c.args.from) (c.loop-digits.digits) c.loop-digits.invariant.0 d in stops'))
-    (⊎_elim (λ w. (let stops' : digit_run (c.args.line.now) (c.args.from) 11 ≡ c.loop-digits.digits = let d : is_digit (nth (c.args.line.now) (c.args.from + c.loop-digits.digits)) ≡ false = (below-digits _ w.2.taken) in c.loop-digits.invariant.4 ∙ run-stops (c.args.line.now) (c.args.from) (c.loop-digits.digits) c.loop-digits.invariant.0 d in stops')) (λ w. (let stops' : digit_run (c.args.line.now) (c.args.from) 11 ≡ c.loop-digits.digits = let d : is_digit (nth (c.args.line.now) (c.args.from + c.loop-digits.digits)) ≡ false = (above-digits _ w.3.taken) in c.loop-digits.invariant.4 ∙ run-stops (c.args.line.now) (c.args.from) (c.loop-digits.digits) c.loop-digits.invariant.0 d in stops')))
-    c.loop-digits-test.branch in run')) (c.loop-digits.value) c.loop-digits.invariant.3 (omega (arith, c.if-digits-eq0.false)) c.loop-digits.invariant.0 (omega arith)
+    number_read (c.args.line.now) (c.args.from) (c.loop-digits.digits) ((let run' : digit_run (c.args.line.now) (c.args.from) 11 ≡ c.loop-digits.digits = (elim c.loop-digits-test.branch [
+    | else-loop-digits-test w ↦ (let stops' : digit_run (c.args.line.now) (c.args.from) 11 ≡ c.loop-digits.digits = let d : is_digit (nth (c.args.line.now) (c.args.from + c.loop-digits.digits)) ≡ false = (past-line (c.args.line.now) (c.args.from + c.loop-digits.digits) (omega arith)) in c.loop-digits.invariant.4 ∙ run-stops (c.args.line.now) (c.args.from) (c.loop-digits.digits) c.loop-digits.invariant.0 d in stops')
+    | then-loop-digits-test+then-b-lt48 w ↦ (let stops' : digit_run (c.args.line.now) (c.args.from) 11 ≡ c.loop-digits.digits = let d : is_digit (nth (c.args.line.now) (c.args.from + c.loop-digits.digits)) ≡ false = (below-digits _ w.if-b-lt48.true) in c.loop-digits.invariant.4 ∙ run-stops (c.args.line.now) (c.args.from) (c.loop-digits.digits) c.loop-digits.invariant.0 d in stops')
+    | then-loop-digits-test+else-b-lt48+then-b-gt57 w ↦ (let stops' : digit_run (c.args.line.now) (c.args.from) 11 ≡ c.loop-digits.digits = let d : is_digit (nth (c.args.line.now) (c.args.from + c.loop-digits.digits)) ≡ false = (above-digits _ w.if-b-gt57.true) in c.loop-digits.invariant.4 ∙ run-stops (c.args.line.now) (c.args.from) (c.loop-digits.digits) c.loop-digits.invariant.0 d in stops')
+    ]) in run')) (c.loop-digits.value) c.loop-digits.invariant.3 (omega (arith, c.if-digits-eq0.false)) c.loop-digits.invariant.0 (omega arith)

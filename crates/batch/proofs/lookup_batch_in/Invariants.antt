@@ -1,0 +1,10 @@
+-- `batch::lookup_batch_in` meets its contract. The invariant: how far the batch is, as `BatchFrom` says.
+use Rattle.table.specs.Parts.{table_of}
+use Rattle.batch.proofs.BatchParts.{BatchFrom}
+use Rattle.batch.proofs.lookup_batch_in.Given as goal
+
+abbrev pub invariant-loop-k : goal.invariant-loop-k
+invariant-loop-k l = BatchFrom (table_of l.shape l.t-2) l.medium l.tenant l.ids l.k l.parts l.mounts
+
+abbrev pub decreases-loop-k : goal.decreases-loop-k
+decreases-loop-k l = l.k
