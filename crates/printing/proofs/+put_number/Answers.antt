@@ -1,8 +1,9 @@
 -- `printing::put_number` meets its contract: the call puts all digits but the last.
-use Rattle.std.proofs.Common.{◌≡◌, ◌<◌, ◌≤◌, length, refl, arith, rules}
+use Rattle.std.proofs.Common.{refl, arith, rules}
 use Rattle.printing.proofs.Printing.{put_small, put-more, length-small, length_more, decimal-short}
 use Rattle.printing.proofs.+put_number.Goals as goal
 
+-- a number below ten is its only digit
 pub returns-then-x-lt10-clause-next : goal.returns-then-x-lt10-clause-next
 returns-then-x-lt10-clause-next t c = omega (arith, length-small c.args.x)
 
@@ -19,6 +20,7 @@ overflow_add-result-2 t c = omega (arith, length_more c.args.x, decimal-short c.
 pub returns-clause-next : goal.returns-clause-next
 returns-clause-next t c = omega (arith, length_more c.args.x)
 
+-- the last digit, after those that the call put
 pub returns-clause-bytes : goal.returns-clause-bytes
 returns-clause-bytes t c =
     let call = c.put_number-next in

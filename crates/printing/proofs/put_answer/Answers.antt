@@ -1,5 +1,5 @@
 -- `printing::put_answer` meets its contract: three numbers, each with room for ten digits and what follows.
-use Rattle.std.proofs.Common.{◌≡◌, ◌≤◌, ◌+◌, ℕ, length, arith, rules}
+use Rattle.std.proofs.Common.{ℕ, arith}
 use Rattle.std.proofs.Math.ListN.{length-set}
 use Rattle.printing.proofs.Printing.{decimal-short, put-line, length-line}
 use Rattle.printing.proofs.put_answer.Goals as goal
@@ -32,6 +32,7 @@ overflow_add-result c = omega (arith, decimal-short)
 pub returns-clause-next : goal.returns-clause-next
 returns-clause-next c = omega (arith, length-line)
 
+-- number after number makes the whole line
 pub returns-clause-bytes : goal.returns-clause-bytes
 returns-clause-bytes c =
     let a = c.args in
@@ -39,4 +40,4 @@ returns-clause-bytes c =
     let two = c.put_number-two in
     let three = c.put_number-three in
     put-line a.out.now one.new.out two.new.out three.new.out a.at a.letter a.refusal a.first a.second one.result two.result three.result
-        one.ensures.next one.ensures.bytes two.ensures.next two.ensures.bytes three.ensures.next three.ensures.bytes
+    one.ensures.next one.ensures.bytes two.ensures.next two.ensures.bytes three.ensures.next three.ensures.bytes

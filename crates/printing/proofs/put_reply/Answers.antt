@@ -4,6 +4,7 @@ use borrow.Author.Tests.{ne_eqb}
 use Rattle.printing.specs.Print.{question, answered}
 use Rattle.printing.proofs.put_reply.Goals as goal
 
+-- in each arm `answered` is the line that the call put, with the letter of the arm's number
 pub returns-in-1 : goal.returns-in-1
 unfolding answered
 returns-in-1 c = record {
@@ -45,5 +46,5 @@ unfolding answered
 returns-in_default c =
     let n = c.args.number in
     let other : answered n c.args.reply ≡ question =
-        rw (ne_eqb n 1 (λ e. omega arith), ne_eqb n 2 (λ e. omega arith), ne_eqb n 3 (λ e. omega arith), ne_eqb n 4 (λ e. omega arith), ne_eqb n 5 (λ e. omega arith)) in
+    rw (ne_eqb n 1 (λ e. omega arith), ne_eqb n 2 (λ e. omega arith), ne_eqb n 3 (λ e. omega arith), ne_eqb n 4 (λ e. omega arith), ne_eqb n 5 (λ e. omega arith)) in
     record { next = rw other c.put_question.ensures.next; bytes = rw other c.put_question.ensures.bytes }
