@@ -13,12 +13,12 @@ returns-then-reply-ne0-clause-next c =
 pub returns-then-reply-ne0-clause-bytes : goal.returns-then-reply-ne0-clause-bytes
 returns-then-reply-ne0-clause-bytes c =
     (shown _ (start-refused c.args.in_use c.args.medium.now c.args.capacity _ _ c.start_reply-reply.ensures c.start-begun.ensures.reply c.if-reply-ne0.true) _ _ _ _ _
-    c.put_answer-next.ensures.next c.put_answer-next.ensures.bytes refl).1
+    c.put_answer-next.ensures.next c.put_answer-next.ensures.bytes refl).1.0
 
 pub returns-then-reply-ne0-clause-sheet : goal.returns-then-reply-ne0-clause-sheet
 returns-then-reply-ne0-clause-sheet c =
     (shown _ (start-refused c.args.in_use c.args.medium.now c.args.capacity _ _ c.start_reply-reply.ensures c.start-begun.ensures.reply c.if-reply-ne0.true) _ _ _ _ _
-    c.put_answer-next.ensures.next c.put_answer-next.ensures.bytes refl).2
+    c.put_answer-next.ensures.next c.put_answer-next.ensures.bytes refl).1.1
 
 pub returns-clause-next : goal.returns-clause-next
 unfolding sheet_of
@@ -34,7 +34,7 @@ returns-clause-bytes c =
     (shown _
     (start-accepted c.args.in_use c.args.medium.now c.args.capacity _ _ c.start_reply-reply.ensures c.start-begun.ensures.reply c.if-reply-ne0.false _ _
     c.start-begun.ensures.table c.blank_all.ensures)
-    _ _ _ _ _ c.put_answer-next.ensures.next c.put_answer-next.ensures.bytes refl).1
+    _ _ _ _ _ c.put_answer-next.ensures.next c.put_answer-next.ensures.bytes refl).1.0
 
 pub returns-clause-sheet : goal.returns-clause-sheet
 unfolding sheet_of
@@ -42,4 +42,4 @@ returns-clause-sheet c =
     (shown _
     (start-accepted c.args.in_use c.args.medium.now c.args.capacity _ _ c.start_reply-reply.ensures c.start-begun.ensures.reply c.if-reply-ne0.false _ _
     c.start-begun.ensures.table c.blank_all.ensures)
-    _ _ _ _ _ c.put_answer-next.ensures.next c.put_answer-next.ensures.bytes refl).2
+    _ _ _ _ _ c.put_answer-next.ensures.next c.put_answer-next.ensures.bytes refl).1.1
