@@ -13,7 +13,7 @@ use Rattle.tenants.proofs.Tenants.{tenant-is}
 use Rattle.replies.specs.Refusal.{first_of, settle}
 use Rattle.replies.proofs.Refusals.{passed, passed-both, first-same, more_same}
 use Rattle.history.specs.Call.{Call, add_server, reweight, write, delete, lookup, batch, Compared, compared}
-use Rattle.history.specs.Machine.{State, reply}
+use Rattle.history.specs.Machine.{State}
 use Rattle.history.specs.Ledger.{Ledger, Version, Entered, told, enter_by, words_for, with_server_l, with_weight_l, short_l, asked_rows_l, with_event, target_l, last_write_of, is_written, write_rows_l, delete_rows_l, lookup_rows_l, opened_from, last_write_reply, rows_of, done_of, enter}
 use Rattle.history.proofs.Entering.{entered}
 use Rattle.history.proofs.Agree.{ledger-numbered, same_address}

@@ -1,7 +1,6 @@
 -- `image_words::decode` meets its contract: by whether there is room for a table.
 use mathlib.Core.Path.{ap}
 use native.Mathlib.Omega.{arith}
-use borrow.Author.Rules.{rules}
 use Rattle.table.specs.declared.Table.{Table}
 use Rattle.image.proofs.Theorem.{decoded-few}
 use Rattle.image_words.proofs.Storing.{no_room, decoded}
