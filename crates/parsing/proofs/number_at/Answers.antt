@@ -32,23 +32,23 @@ loop-digits-preserved c = (
 
 pub returns-then-digits-eq0 : goal.returns-then-digits-eq0
 returns-then-digits-eq0 c = no_digit (c.args.line.now) (c.args.from) (c.loop-digits.digits) ((let run' : digit_run (c.args.line.now) (c.args.from) 11 ≡ c.loop-digits.digits = (elim c.loop-digits-test.branch [
-    | else-loop-digits-test w ↦ (let stops' : digit_run (c.args.line.now) (c.args.from) 11 ≡ c.loop-digits.digits = let d : is_digit (nth (c.args.line.now) (c.args.from + c.loop-digits.digits)) ≡ false = (past-line (c.args.line.now) (c.args.from + c.loop-digits.digits) (omega arith)) in c.loop-digits.invariant.4 ∙ run-stops (c.args.line.now) (c.args.from) (c.loop-digits.digits) c.loop-digits.invariant.0 d in stops')
-    | then-loop-digits-test+then-b-lt48 w ↦ (let stops' : digit_run (c.args.line.now) (c.args.from) 11 ≡ c.loop-digits.digits = let d : is_digit (nth (c.args.line.now) (c.args.from + c.loop-digits.digits)) ≡ false = (below-digits _ w.if-b-lt48.true) in c.loop-digits.invariant.4 ∙ run-stops (c.args.line.now) (c.args.from) (c.loop-digits.digits) c.loop-digits.invariant.0 d in stops')
-    | then-loop-digits-test+else-b-lt48+then-b-gt57 w ↦ (let stops' : digit_run (c.args.line.now) (c.args.from) 11 ≡ c.loop-digits.digits = let d : is_digit (nth (c.args.line.now) (c.args.from + c.loop-digits.digits)) ≡ false = (above-digits _ w.if-b-gt57.true) in c.loop-digits.invariant.4 ∙ run-stops (c.args.line.now) (c.args.from) (c.loop-digits.digits) c.loop-digits.invariant.0 d in stops')
-    ]) in run')) c.if-digits-eq0.true
+  | else-loop-digits-test w ↦ (let stops' : digit_run (c.args.line.now) (c.args.from) 11 ≡ c.loop-digits.digits = let d : is_digit (nth (c.args.line.now) (c.args.from + c.loop-digits.digits)) ≡ false = (past-line (c.args.line.now) (c.args.from + c.loop-digits.digits) (omega arith)) in c.loop-digits.invariant.4 ∙ run-stops (c.args.line.now) (c.args.from) (c.loop-digits.digits) c.loop-digits.invariant.0 d in stops')
+  | then-loop-digits-test+then-b-lt48 w ↦ (let stops' : digit_run (c.args.line.now) (c.args.from) 11 ≡ c.loop-digits.digits = let d : is_digit (nth (c.args.line.now) (c.args.from + c.loop-digits.digits)) ≡ false = (below-digits _ w.if-b-lt48.true) in c.loop-digits.invariant.4 ∙ run-stops (c.args.line.now) (c.args.from) (c.loop-digits.digits) c.loop-digits.invariant.0 d in stops')
+  | then-loop-digits-test+else-b-lt48+then-b-gt57 w ↦ (let stops' : digit_run (c.args.line.now) (c.args.from) 11 ≡ c.loop-digits.digits = let d : is_digit (nth (c.args.line.now) (c.args.from + c.loop-digits.digits)) ≡ false = (above-digits _ w.if-b-gt57.true) in c.loop-digits.invariant.4 ∙ run-stops (c.args.line.now) (c.args.from) (c.loop-digits.digits) c.loop-digits.invariant.0 d in stops')
+]) in run')) c.if-digits-eq0.true
 
 pub returns-then-value-ge4294967296 : goal.returns-then-value-ge4294967296
 returns-then-value-ge4294967296 c =
     too-high (c.args.line.now) (c.args.from) (c.loop-digits.digits) ((let run' : digit_run (c.args.line.now) (c.args.from) 11 ≡ c.loop-digits.digits = (elim c.loop-digits-test.branch [
-    | else-loop-digits-test w ↦ (let stops' : digit_run (c.args.line.now) (c.args.from) 11 ≡ c.loop-digits.digits = let d : is_digit (nth (c.args.line.now) (c.args.from + c.loop-digits.digits)) ≡ false = (past-line (c.args.line.now) (c.args.from + c.loop-digits.digits) (omega arith)) in c.loop-digits.invariant.4 ∙ run-stops (c.args.line.now) (c.args.from) (c.loop-digits.digits) c.loop-digits.invariant.0 d in stops')
-    | then-loop-digits-test+then-b-lt48 w ↦ (let stops' : digit_run (c.args.line.now) (c.args.from) 11 ≡ c.loop-digits.digits = let d : is_digit (nth (c.args.line.now) (c.args.from + c.loop-digits.digits)) ≡ false = (below-digits _ w.if-b-lt48.true) in c.loop-digits.invariant.4 ∙ run-stops (c.args.line.now) (c.args.from) (c.loop-digits.digits) c.loop-digits.invariant.0 d in stops')
-    | then-loop-digits-test+else-b-lt48+then-b-gt57 w ↦ (let stops' : digit_run (c.args.line.now) (c.args.from) 11 ≡ c.loop-digits.digits = let d : is_digit (nth (c.args.line.now) (c.args.from + c.loop-digits.digits)) ≡ false = (above-digits _ w.if-b-gt57.true) in c.loop-digits.invariant.4 ∙ run-stops (c.args.line.now) (c.args.from) (c.loop-digits.digits) c.loop-digits.invariant.0 d in stops')
+      | else-loop-digits-test w ↦ (let stops' : digit_run (c.args.line.now) (c.args.from) 11 ≡ c.loop-digits.digits = let d : is_digit (nth (c.args.line.now) (c.args.from + c.loop-digits.digits)) ≡ false = (past-line (c.args.line.now) (c.args.from + c.loop-digits.digits) (omega arith)) in c.loop-digits.invariant.4 ∙ run-stops (c.args.line.now) (c.args.from) (c.loop-digits.digits) c.loop-digits.invariant.0 d in stops')
+      | then-loop-digits-test+then-b-lt48 w ↦ (let stops' : digit_run (c.args.line.now) (c.args.from) 11 ≡ c.loop-digits.digits = let d : is_digit (nth (c.args.line.now) (c.args.from + c.loop-digits.digits)) ≡ false = (below-digits _ w.if-b-lt48.true) in c.loop-digits.invariant.4 ∙ run-stops (c.args.line.now) (c.args.from) (c.loop-digits.digits) c.loop-digits.invariant.0 d in stops')
+      | then-loop-digits-test+else-b-lt48+then-b-gt57 w ↦ (let stops' : digit_run (c.args.line.now) (c.args.from) 11 ≡ c.loop-digits.digits = let d : is_digit (nth (c.args.line.now) (c.args.from + c.loop-digits.digits)) ≡ false = (above-digits _ w.if-b-gt57.true) in c.loop-digits.invariant.4 ∙ run-stops (c.args.line.now) (c.args.from) (c.loop-digits.digits) c.loop-digits.invariant.0 d in stops')
     ]) in run')) (c.loop-digits.value) c.loop-digits.invariant.3 (omega (arith, c.if-digits-eq0.false)) c.loop-digits.invariant.0 c.if-value-ge4294967296.true
 
 pub returns : goal.returns
 returns c =
     number_read (c.args.line.now) (c.args.from) (c.loop-digits.digits) ((let run' : digit_run (c.args.line.now) (c.args.from) 11 ≡ c.loop-digits.digits = (elim c.loop-digits-test.branch [
-    | else-loop-digits-test w ↦ (let stops' : digit_run (c.args.line.now) (c.args.from) 11 ≡ c.loop-digits.digits = let d : is_digit (nth (c.args.line.now) (c.args.from + c.loop-digits.digits)) ≡ false = (past-line (c.args.line.now) (c.args.from + c.loop-digits.digits) (omega arith)) in c.loop-digits.invariant.4 ∙ run-stops (c.args.line.now) (c.args.from) (c.loop-digits.digits) c.loop-digits.invariant.0 d in stops')
-    | then-loop-digits-test+then-b-lt48 w ↦ (let stops' : digit_run (c.args.line.now) (c.args.from) 11 ≡ c.loop-digits.digits = let d : is_digit (nth (c.args.line.now) (c.args.from + c.loop-digits.digits)) ≡ false = (below-digits _ w.if-b-lt48.true) in c.loop-digits.invariant.4 ∙ run-stops (c.args.line.now) (c.args.from) (c.loop-digits.digits) c.loop-digits.invariant.0 d in stops')
-    | then-loop-digits-test+else-b-lt48+then-b-gt57 w ↦ (let stops' : digit_run (c.args.line.now) (c.args.from) 11 ≡ c.loop-digits.digits = let d : is_digit (nth (c.args.line.now) (c.args.from + c.loop-digits.digits)) ≡ false = (above-digits _ w.if-b-gt57.true) in c.loop-digits.invariant.4 ∙ run-stops (c.args.line.now) (c.args.from) (c.loop-digits.digits) c.loop-digits.invariant.0 d in stops')
+      | else-loop-digits-test w ↦ (let stops' : digit_run (c.args.line.now) (c.args.from) 11 ≡ c.loop-digits.digits = let d : is_digit (nth (c.args.line.now) (c.args.from + c.loop-digits.digits)) ≡ false = (past-line (c.args.line.now) (c.args.from + c.loop-digits.digits) (omega arith)) in c.loop-digits.invariant.4 ∙ run-stops (c.args.line.now) (c.args.from) (c.loop-digits.digits) c.loop-digits.invariant.0 d in stops')
+      | then-loop-digits-test+then-b-lt48 w ↦ (let stops' : digit_run (c.args.line.now) (c.args.from) 11 ≡ c.loop-digits.digits = let d : is_digit (nth (c.args.line.now) (c.args.from + c.loop-digits.digits)) ≡ false = (below-digits _ w.if-b-lt48.true) in c.loop-digits.invariant.4 ∙ run-stops (c.args.line.now) (c.args.from) (c.loop-digits.digits) c.loop-digits.invariant.0 d in stops')
+      | then-loop-digits-test+else-b-lt48+then-b-gt57 w ↦ (let stops' : digit_run (c.args.line.now) (c.args.from) 11 ≡ c.loop-digits.digits = let d : is_digit (nth (c.args.line.now) (c.args.from + c.loop-digits.digits)) ≡ false = (above-digits _ w.if-b-gt57.true) in c.loop-digits.invariant.4 ∙ run-stops (c.args.line.now) (c.args.from) (c.loop-digits.digits) c.loop-digits.invariant.0 d in stops')
     ]) in run')) (c.loop-digits.value) c.loop-digits.invariant.3 (omega (arith, c.if-digits-eq0.false)) c.loop-digits.invariant.0 (omega arith)
