@@ -25,6 +25,17 @@ returns-then-input-gt-MAX_INPUT-clause-words c =
 pub loop-from-init : goal.loop-from-init
 loop-from-init c = (all_left _ _ _ _, omega arith, refl, refl)
 
+-- a line lies within the input
+pub slice_bounds-run_line-start : goal.slice_bounds-run_line-start
+slice_bounds-run_line-start c =
+    let ends : (c.loop-from.from ≤ c.line_end-end.result) × (c.line_end-end.result ≤ length c.args.input.now) = end-bounds c.args.input.now c.loop-from.from c.loop-from-test.true _ c.line_end-end.ensures in
+    ends.0
+
+pub slice_bounds-run_line-end : goal.slice_bounds-run_line-end
+slice_bounds-run_line-end c =
+    let ends : (c.loop-from.from ≤ c.line_end-end.result) × (c.line_end-end.result ≤ length c.args.input.now) = end-bounds c.args.input.now c.loop-from.from c.loop-from-test.true _ c.line_end-end.ensures in
+    ends.1
+
 pub slice_bounds-run_line-count : goal.slice_bounds-run_line-count
 slice_bounds-run_line-count c =
     let ends : (c.loop-from.from ≤ c.line_end-end.result) × (c.line_end-end.result ≤ length c.args.input.now) = end-bounds c.args.input.now c.loop-from.from c.loop-from-test.true _ c.line_end-end.ensures in
@@ -44,9 +55,9 @@ pub loop-from-preserved : goal.loop-from-preserved
 loop-from-preserved c =
     let ends : (c.loop-from.from ≤ c.line_end-end.result) × (c.line_end-end.result ≤ length c.args.input.now) = end-bounds c.args.input.now c.loop-from.from c.loop-from-test.true _ c.line_end-end.ensures in (
       one-done c.args.input.now c.args.medium.now c.args.out.now c.loop-from.in_use _ c.loop-from.medium _ c.loop-from.out _ c.loop-from.from _ c.loop-from.at _
-          c.loop-from.invariant.0 c.loop-from-test.true c.line_end-end.ensures c.run_line-ran.ensures,
+          c.loop-from.invariant.0 c.loop-from-test.true c.line_end-end.ensures (c.run_line-ran.ensures.next, (c.run_line-ran.ensures.bytes, c.run_line-ran.ensures.sheet)),
       still-room _ _ _ _ _ _ c.run_line-ran.ensures.next c.loop-from.invariant.1 (ends).0,
-      c.run_line-ran.auto.out ∙ c.loop-from.invariant.2,
+      c.run_line-ran.auto.medium ∙ c.loop-from.invariant.2,
       c.run_line-ran.auto.out ∙ c.loop-from.invariant.3,
     )
 
