@@ -23,6 +23,9 @@ pub enum Line {
     Unreadable,
 }
 
+// A number has at most so many digits.
+const MOST_DIGITS: usize = 10;
+
 // The number that begins at a position: 1 to 10 digits, below 2^32.
 fn number_at(line: &[u8], from: usize) -> Parsed
     requires { from ≤ length line.now }
@@ -38,7 +41,7 @@ fn number_at(line: &[u8], from: usize) -> Parsed
         if b > 57 {
             break;
         }
-        if digits == 10 {
+        if digits == MOST_DIGITS {
             return Parsed::Nothing;
         }
         value = value * 10 + (b - 48) as u64;

@@ -18,12 +18,12 @@ pub loop-digits-init : goal.loop-digits-init
 unfolding value_of
 loop-digits-init c = (omega arith, omega arith, omega arith, refl, run-all c.args.line.now c.args.from)
 
-pub returns-then-digits-eq10 : goal.returns-then-digits-eq10
-returns-then-digits-eq10 c = too_long (c.args.line.now) (c.args.from) (c.loop-digits.digits) c.if-digits-eq10.true ((let on' : digit_run (c.args.line.now) (c.args.from) 11 ≡ run_left (c.args.line.now) (c.args.from) (c.loop-digits.digits + 1) = c.loop-digits.invariant.4 ∙ run_on (c.args.line.now) (c.args.from) (c.loop-digits.digits) c.loop-digits.invariant.0 (digit (nth (c.args.line.now) (c.args.from + c.loop-digits.digits)) (omega arith) (omega arith)) in on'))
+pub returns-then-digits-eq-MOST_DIGITS : goal.returns-then-digits-eq-MOST_DIGITS
+returns-then-digits-eq-MOST_DIGITS c = too_long (c.args.line.now) (c.args.from) (c.loop-digits.digits) c.if-digits-eq-MOST_DIGITS.true ((let on' : digit_run (c.args.line.now) (c.args.from) 11 ≡ run_left (c.args.line.now) (c.args.from) (c.loop-digits.digits + 1) = c.loop-digits.invariant.4 ∙ run_on (c.args.line.now) (c.args.from) (c.loop-digits.digits) c.loop-digits.invariant.0 (digit (nth (c.args.line.now) (c.args.from + c.loop-digits.digits)) (omega arith) (omega arith)) in on'))
 
 pub loop-digits-preserved : goal.loop-digits-preserved
 loop-digits-preserved c = (
-  omega (arith, c.if-digits-eq10.false),
+  omega (arith, c.if-digits-eq-MOST_DIGITS.false),
   omega arith,
   next-bound (c.loop-digits.value) (c.loop-digits.digits) (nth (c.args.line.now) (c.args.from + c.loop-digits.digits) - 48) c.loop-digits.invariant.2 (omega arith),
   next-value (c.args.line.now) (c.args.from) (c.loop-digits.digits) (c.loop-digits.value) c.loop-digits.invariant.3,
