@@ -16,6 +16,9 @@ use limits::MAX_IDS;
 use replies::Reply;
 use table_words::TABLE_LENGTH;
 
+// The refusal number of a list that is not refused.
+const ACCEPTED: u32 = 0;
+
 // Whether the runs are long enough for a batch of `n` ids.
 fn fits(table: &[u32], n: usize, replies: &[u32], order: &[u32], mounts: &[u32]) -> bool
     ensures { result ≡ fits_batch n table.now replies.now order.now mounts.now }
@@ -110,7 +113,7 @@ pub fn lookup_batch(
         return encoding::TOO_SHORT;
     }
     let batch = look_up(table, medium, tenant, ids);
-    if batch.refusal != 0 {
+    if batch.refusal != ACCEPTED {
         return batch.refusal;
     }
     store_replies(batch, n, replies);
