@@ -32,11 +32,11 @@ returns-then-count-gt-MAX_SERVERS-clause-table c =
 
 pub returns-then-image-image_length-clause-reply : goal.returns-then-image-image_length-clause-reply
 returns-then-image-image_length-clause-reply c =
-    let image = c.args.image.now in (refuses image (c.bad_image-then-image-image_length.ensures.reply, c.bad_image-then-image-image_length.ensures.table) (not-long image (λ e. c.if-image-image_length.true (e ∙ ap image_length (sym c.count_in-count.ensures) ∙ sym c.image_length.ensures)))).0
+    let image = c.args.image.now in (refuses image (c.bad_image-then-image-image_length.ensures.reply, c.bad_image-then-image-image_length.ensures.table) (not-long image (λ e. omega (arith, e, ap image_length (sym c.count_in-count.ensures), c.image_length.ensures, c.if-image-image_length.true)))).0
 
 pub returns-then-image-image_length-clause-table : goal.returns-then-image-image_length-clause-table
 returns-then-image-image_length-clause-table c =
-    let image = c.args.image.now in (refuses image (c.bad_image-then-image-image_length.ensures.reply, c.bad_image-then-image-image_length.ensures.table) (not-long image (λ e. c.if-image-image_length.true (e ∙ ap image_length (sym c.count_in-count.ensures) ∙ sym c.image_length.ensures)))).1
+    let image = c.args.image.now in (refuses image (c.bad_image-then-image-image_length.ensures.reply, c.bad_image-then-image-image_length.ensures.table) (not-long image (λ e. omega (arith, e, ap image_length (sym c.count_in-count.ensures), c.image_length.ensures, c.if-image-image_length.true)))).1
 
 pub returns-then-not-read-clause-reply : goal.returns-then-not-read-clause-reply
 returns-then-not-read-clause-reply c =
