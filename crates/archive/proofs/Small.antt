@@ -4,7 +4,7 @@
 use Prim.Native.Nat.{ℕ, ◌<◌}
 use mathlib.Core.Path.{◌≡◌}
 use mathlib.Core.List.{List}
-use mathlib.Core.Option.{Option, none, some}
+use Rattle.std.specs.Prelude.{Option, None, Some}
 use native.Mathlib.Omega.{arith}
 use lib.Dec.{eqb}
 use Rattle.lists.specs.Below.{nth}
@@ -71,8 +71,8 @@ module _ (t : Table) where
 
   met-small : (m : List ℕ) (n : ℕ) → n < 4294967296 → (o : Option Place) → Small (met_reply t.capacity m n o)
   unfolding met_reply
-  met-small m n l none = record { server = omega arith; opened = l; invalidated = omega arith }
-  met-small m n l (some p) = by_bool (eqb (tag_of (nth m (value_at t.capacity p.server p.entry))) 1)
+  met-small m n l None = record { server = omega arith; opened = l; invalidated = omega arith }
+  met-small m n l (Some p) = by_bool (eqb (tag_of (nth m (value_at t.capacity p.server p.entry))) 1)
       (λ e. rw e (record { server = omega arith; opened = l; invalidated = omega arith }))
       (λ e. rw e (record { server = omega arith; opened = l; invalidated = omega arith }))
 

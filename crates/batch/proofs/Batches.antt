@@ -5,7 +5,7 @@ use mathlib.Core.Path.{◌≡◌, refl, sym, ap, ◌∙◌}
 use mathlib.Core.Logic.{◌⊎◌, inl, inr, ⊎_elim, ◌≢◌}
 use mathlib.Core.Bool.{Bool, true, false, cond, not}
 use mathlib.Core.List.{List}
-use mathlib.Core.Option.{Option, none, some}
+use Rattle.std.specs.Prelude.{Option, None, Some}
 use native.Mathlib.Omega.{arith}
 use lib.ListN.{length}
 use lib.Dec.{leb, eqb}
@@ -42,12 +42,12 @@ use Rattle.batch_answer.proofs.Tally.{Tally, tally-start, tally-none, tally-skip
 -- refusal and value of an entry that is met do not hang on how many servers were opened, and it is not called absent
 module _ (capacity : ℕ) (m : List ℕ) where
   met-same : (a b : ℕ) (p : Place)
-      → ((met_reply capacity m a (some p)).refusal ≡ (met_reply capacity m b (some p)).refusal)
-      × ((met_reply capacity m a (some p)).value ≡ (met_reply capacity m b (some p)).value)
+      → ((met_reply capacity m a (Some p)).refusal ≡ (met_reply capacity m b (Some p)).refusal)
+      × ((met_reply capacity m a (Some p)).value ≡ (met_reply capacity m b (Some p)).value)
   unfolding met_reply
   met-same a b p = by_bool (eqb (tag_of (nth m (value_at capacity p.server p.entry))) 1) (λ e. rw e (refl, refl)) (λ e. rw e (refl, refl))
 
-  met-not-absent : (a : ℕ) (p : Place) → (met_reply capacity m a (some p)).refusal ≢ 8
+  met-not-absent : (a : ℕ) (p : Place) → (met_reply capacity m a (Some p)).refusal ≢ 8
   unfolding met_reply
   met-not-absent a p = by_bool (eqb (tag_of (nth m (value_at capacity p.server p.entry))) 1)
       (λ e. rw e (λ z. omega arith)) (λ e. rw e (λ z. omega arith))
@@ -105,7 +105,7 @@ module _ (t : Table) (m : List ℕ) (tenant id : ℕ) where
       (λ e. some_below-none (lookup_opens t m tenant id) t.count (λ k l. opens-none (eqb-false (first_of (lookup_rows t m tenant id)) 0 e) k) ∙ sym e)
 
   -- where the search meets an entry, no server below is opened
-  closed-below : (p : Place) → first_of (lookup_rows t m tenant id) ≡ 0 → (search_for t m id).met ≡ some p → (i : ℕ) → i < p.server → lookup_opens t m tenant id i ≡ false
+  closed-below : (p : Place) → first_of (lookup_rows t m tenant id) ≡ 0 → (search_for t m id).met ≡ Some p → (i : ℕ) → i < p.server → lookup_opens t m tenant id i ≡ false
   unfolding opens lowest
   closed-below p z e i b = opens-ready z i ∙ rw (e, lt-leb p.server i b)
 
@@ -211,22 +211,22 @@ module _ (t : Table) (m : List ℕ) (tenant id : ℕ) where
     }
 
     in-vain : (p : Progress) → DoneFrom (suc k) p → Pending (suc k) p → reads t id k ≡ true
-        → (search_for t m id).met ≡ (opening k none (search_below t m id k)).met
-        → Stepped (visited t.capacity m k (suc p.opened) none)
+        → (search_for t m id).met ≡ (opening k None (search_below t m id k)).met
+        → Stepped (visited t.capacity m k (suc p.opened) None)
     unfolding visited opening
     in-vain p d s r e =
         visited-is p _ d (opened-here _ s.ready e (search-low t m id k) true r) refl refl
         (inl (record { absent = refl; no_value = refl; ready = s.ready; left = e }))
 
     meets : (j : ℕ) (p : Progress) → DoneFrom (suc k) p → Pending (suc k) p → reads t id k ≡ true
-        → (search_for t m id).met ≡ (opening k (some j) (search_below t m id k)).met
-        → Stepped (visited t.capacity m k (suc p.opened) (some j))
+        → (search_for t m id).met ≡ (opening k (Some j) (search_below t m id k)).met
+        → Stepped (visited t.capacity m k (suc p.opened) (Some j))
     unfolding visited opening lowest
     meets j p d s r e =
         let here : Place = record { server = k; entry = j } in
-        let reply = reply-met (some here) s.ready e in
+        let reply = reply-met (Some here) s.ready e in
         let same = met-same t.capacity m (suc p.opened) (length (search_for t m id).opened) here in
-        visited-is p _ d (opened-here (some here) s.ready e (le-leb k k (omega arith)) true r) refl refl
+        visited-is p _ d (opened-here (Some here) s.ready e (le-leb k k (omega arith)) true r) refl refl
         (inr (record {
           not_absent = met-not-absent t.capacity m (suc p.opened) here;
           refusal = same.0 ∙ sym (ap (λ (x : Reply). x.refusal) reply);
@@ -256,7 +256,7 @@ module _ (t : Table) (m : List ℕ) (tenant id : ℕ) where
       let o = tally-count (lookup_opens t m tenant id) t.count p.opened p.end d.tally ∙ sym reply-opened in
       ⊎_elim
       (λ (s : Pending 0 p).
-      let r = reply-met none s.ready s.left in
+      let r = reply-met None s.ready s.left in
       (s.absent ∙ sym (ap (λ (x : Reply). x.refusal) r), s.no_value ∙ sym (ap (λ (x : Reply). x.value) r), o))
       (λ (s : Ended 0 p). (s.refusal, s.value, o))
       d.status

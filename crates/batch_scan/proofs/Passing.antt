@@ -4,7 +4,7 @@ use Prim.Native.Nat.{ℕ, zero, suc, ◌+◌, ◌-◌, ◌*◌, ◌≤◌, ◌<�
 use mathlib.Core.Path.{◌≡◌, refl, sym, ap, ◌∙◌}
 use mathlib.Core.Bool.{Bool, true, false, cond, not, ◌&&◌, and-true, and-false}
 use mathlib.Core.List.{List}
-use mathlib.Core.Option.{Option, some}
+use Rattle.std.specs.Prelude.{Option, Some}
 use native.Mathlib.Numerals.{add-one}
 use native.Mathlib.Omega.{arith}
 use lib.ListN.{length, set}
@@ -39,7 +39,7 @@ meet-more word entry ids x₀ x n r e d =
     set_below-more f n x₀ x r e (d ∙ ap (met_by (eqb word (nth ids n)) entry) same)
 
 -- an entry that bears the id is met if none was met before
-met_next : (b : Bool) (entry number : ℕ) (left : Option ℕ) → met_or (met_by b (suc entry) number) left ≡ met_or number (cond b (some entry) left)
+met_next : (b : Bool) (entry number : ℕ) (left : Option ℕ) → met_or (met_by b (suc entry) number) left ≡ met_or number (cond b (Some entry) left)
 unfolding met_by met_or
 met_next true entry zero left = refl
 met_next false entry zero left = refl

@@ -1,6 +1,5 @@
 -- One pass over the entries of a server for several ids, for the contracts of the functions that make it.
-use Rattle.std.specs.Prelude.{ℕ, zero, suc, ◌+◌, ◌*◌, ◌%◌, ◌<◌, ◌≡◌, Bool, cond, not, ◌&&◌, List, length, eqb}
-use Rattle.std.proofs.Math.Option.{Option, none, some}
+use Rattle.std.specs.Prelude.{ℕ, zero, suc, ◌+◌, ◌*◌, ◌%◌, ◌<◌, ◌≡◌, Bool, cond, not, ◌&&◌, List, length, eqb, Option, None, Some}
 use Rattle.lists.specs.Below.{nth, highest}
 use Rattle.medium.specs.Entry.{entry_words, bears_at, live}
 
@@ -31,7 +30,7 @@ met_by bears entry number = cond (eqb number 0 && bears) entry number
 -- the entry that such a number stands for, or else what the entries left give
 unfoldable pub met_or : ℕ → Option ℕ → Option ℕ
 met_or zero left = left
-met_or (suc entry) left = some entry
+met_or (suc entry) left = Some entry
 
 -- entry j of the server that begins at an address bears an id
 unfoldable pub bearing : List ℕ → ℕ → ℕ → ℕ → Bool
@@ -46,4 +45,4 @@ pub record Passed (m : List ℕ) (base : ℕ) (ids : List ℕ) (n low high : ℕ
 
 -- each of the first n ids has the number of its highest-numbered live entry on server k
 pub record NewestOf (capacity used : ℕ) (m ids : List ℕ) (k n : ℕ) (newest : List ℕ) : Type 0 where
-  pub each : (i : ℕ) → i < n → met_or (nth newest i) none ≡ highest (live capacity used m (nth ids i) k) used
+  pub each : (i : ℕ) → i < n → met_or (nth newest i) None ≡ highest (live capacity used m (nth ids i) k) used

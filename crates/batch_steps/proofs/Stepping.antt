@@ -5,7 +5,7 @@ use mathlib.Core.Path.{◌≡◌, refl, sym, ap, ◌∙◌}
 use mathlib.Core.Logic.{◌≢◌}
 use mathlib.Core.Bool.{Bool, true, false, cond}
 use mathlib.Core.List.{List}
-use mathlib.Core.Option.{Option, none, some}
+use Rattle.std.specs.Prelude.{Option, None, Some}
 use native.Mathlib.Numerals.{add-one}
 use native.Mathlib.Omega.{arith}
 use lib.ListN.{set}
@@ -28,21 +28,21 @@ use Rattle.batch_steps.specs.Steps.{newest_by, visited, stepped, progress_at, wi
 
 -- what the search of a server found, by its answer
 module _ (o : Option ℕ) {n : Newest} (e : n ≡ newest_by o) where
-  newest-some : (j : ℕ) → n ≡ Entry j → o ≡ some j
+  newest-some : (j : ℕ) → n ≡ Entry j → o ≡ Some j
   unfolding newest_by
   newest-some j d = go o refl
     where
-      go : (p : Option ℕ) → o ≡ p → o ≡ some j
-      go none q = let h : n ≡ Nothing = rw q at e in let z : ◌≡◌ {A = ℕ} 0 1 = cc in absurd (omega arith)
-      go (some i) q = let h : n ≡ Entry i = rw q at e in let s : i ≡ j = cc in q ∙ ap some s
+      go : (p : Option ℕ) → o ≡ p → o ≡ Some j
+      go None q = let h : n ≡ Nothing = rw q at e in let z : ◌≡◌ {A = ℕ} 0 1 = cc in absurd (omega arith)
+      go (Some i) q = let h : n ≡ Entry i = rw q at e in let s : i ≡ j = cc in q ∙ ap Some s
 
-  newest-none : n ≡ Nothing → o ≡ none
+  newest-none : n ≡ Nothing → o ≡ None
   unfolding newest_by
   newest-none d = go o refl
     where
-      go : (p : Option ℕ) → o ≡ p → o ≡ none
-      go none q = q
-      go (some i) q = let h : n ≡ Entry i = rw q at e in let z : ◌≡◌ {A = ℕ} 0 1 = cc in absurd (omega arith)
+      go : (p : Option ℕ) → o ≡ p → o ≡ None
+      go None q = q
+      go (Some i) q = let h : n ≡ Entry i = rw q at e in let z : ◌≡◌ {A = ℕ} 0 1 = cc in absurd (omega arith)
 
 -- an entry that it answers is used
 pub newest-used : (capacity used : ℕ) (m : List ℕ) (id k : ℕ) {n : Newest} → n ≡ newest_by (highest (live capacity used m id k) used)
@@ -74,7 +74,7 @@ module _ (read : Fraction) (shape : Shape) (used : ℕ) (m : List ℕ) (id k : �
       unfolding visited
       step-passed g = sym (step-tested true d ∙ rw (newest-none _ f g, add-one p.opened, add-one k))
 
-      pub step-met : (j : ℕ) → n ≡ Entry j → {y z : Reply} → y ≡ z → z ≡ met_reply shape.capacity m (p.opened + 1) (some (record { server = k; entry = j }))
+      pub step-met : (j : ℕ) → n ≡ Entry j → {y z : Reply} → y ≡ z → z ≡ met_reply shape.capacity m (p.opened + 1) (Some (record { server = k; entry = j }))
           → record { refusal = y.refusal; value = y.value; opened = p.opened + 1; end = k + 1 } ≡ next_part
       unfolding visited
       step-met j g h i = sym (step-tested true d ∙ rw (newest-some _ f j g, h, i, add-one p.opened, add-one k))

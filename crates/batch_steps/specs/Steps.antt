@@ -1,6 +1,5 @@
 -- A batch step by step, for the contracts of the functions that run it: what one server makes of one id's part in it.
-use Rattle.std.specs.Prelude.{ℕ, suc, cond, ◌&&◌, List, length, eqb}
-use Rattle.std.proofs.Math.Option.{Option, none, some}
+use Rattle.std.specs.Prelude.{ℕ, suc, cond, ◌&&◌, List, length, eqb, Option, None, Some}
 use Rattle.lists.specs.Below.{nth, highest, set_below}
 use Rattle.draws.specs.Draw.{modulus, draw_of}
 use Rattle.placement.specs.declared.Fraction.{Fraction}
@@ -15,14 +14,14 @@ use Rattle.batch_steps.specs.declared.Progress.{Progress}
 
 -- what the search of one server answers
 unfoldable pub newest_by : Option ℕ → Newest
-newest_by none = Nothing
-newest_by (some j) = Entry j
+newest_by None = Nothing
+newest_by (Some j) = Entry j
 
 -- server k is opened for an id, and `opened` is the number of servers opened with it; an entry there ends the search
 unfoldable pub visited : ℕ → List ℕ → ℕ → ℕ → Option ℕ → Progress
-visited capacity m k opened none = record { refusal = 8; value = 0; opened = opened; end = suc k }
-visited capacity m k opened (some j) =
-    let r = met_reply capacity m opened (some (record { server = k; entry = j })) in
+visited capacity m k opened None = record { refusal = 8; value = 0; opened = opened; end = suc k }
+visited capacity m k opened (Some j) =
+    let r = met_reply capacity m opened (Some (record { server = k; entry = j })) in
     record { refusal = r.refusal; value = r.value; opened = opened; end = suc k }
 
 -- server k, by its ReadP and its used in a table of this shape: it is opened if no entry of the id was met yet and it is read for

@@ -3,7 +3,7 @@
 use Prim.Native.Nat.{ℕ, ◌≤◌, ◌<◌}
 use mathlib.Core.Path.{◌≡◌, sym, ap, ◌∙◌}
 use mathlib.Core.List.{List, ◌++◌}
-use mathlib.Core.Option.{Option, none, some}
+use Rattle.std.specs.Prelude.{Option, None, Some}
 use native.Mathlib.Omega.{arith}
 use lib.ListN.{length, drop, length-append, length-drop}
 use lib.Seq.{drop_at}
@@ -40,8 +40,8 @@ next-arrays S (batch tenant ids) a = with_opened-arrays S.table tenant _ a
 
 pub call-arrays : (S : State) (o : Option Call) → Arrays S.table → Arrays (next_by S o).table
 unfolding next_by
-call-arrays S none a = a
-call-arrays S (some c) a = next-arrays S c a
+call-arrays S None a = a
+call-arrays S (Some c) a = next-arrays S c a
 
 -- to store a table changes no length
 pub length-stored : (words : List ℕ) (t : Table) → table_length ≤ length words → Arrays t → length (with_table words t) ≡ length words
@@ -91,5 +91,5 @@ next-count S (batch tenant ids) l = l
 
 pub call-count : (S : State) (o : Option Call) → Fits S.table → Fits (next_by S o).table
 unfolding next_by
-call-count S none l = l
-call-count S (some c) l = next-count S c l
+call-count S None l = l
+call-count S (Some c) l = next-count S c l

@@ -2,7 +2,7 @@
 use Prim.Native.Nat.{ℕ, ◌≤◌}
 use mathlib.Core.Path.{◌≡◌, refl, ap}
 use mathlib.Core.List.{List}
-use mathlib.Core.Option.{none}
+use Rattle.std.specs.Prelude.{None}
 use native.Mathlib.Omega.{arith}
 use lib.ListN.{length, take}
 use Rattle.printing.specs.Print.{question}
@@ -30,6 +30,6 @@ module _ (r : Read) (input m : List ℕ) where
   unfolding answer_to
   to-bytes n e = ap (λ (x : Read). answer_to x input m) e
 
-  pub to-failure : r ≡ read.Failed → answer_to r input m ≡ record { bytes = question; sheet = record { table = none; medium = m } }
+  pub to-failure : r ≡ read.Failed → answer_to r input m ≡ record { bytes = question; sheet = record { table = None; medium = m } }
   unfolding answer_to
   to-failure e = ap (λ (x : Read). answer_to x input m) e

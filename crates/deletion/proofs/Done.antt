@@ -6,7 +6,7 @@ use mathlib.Core.Logic.{◌≢◌}
 use mathlib.Core.Bool.{Bool, false, cond, not}
 use mathlib.Core.List.Memᴰ
 use mathlib.Core.List.{List, [], ◌∷◌}
-use mathlib.Core.Option.{Option, none, some}
+use Rattle.std.specs.Prelude.{Option, None, Some}
 use native.Mathlib.Omega.{arith}
 use lib.ListN.{length, take}
 use lib.Seq.{take-nil}
@@ -41,14 +41,14 @@ module _ (t : Table) (m : List ℕ) (id : ℕ) where
   deleted-some = go (search_for t m id).met refl (delete_marks t m id) (sym delete-all)
     where
       go : (o : Option Place) → (search_for t m id).met ≡ o → (l : List ℕ) → marks_over t.capacity (used_of t) m id (reads t id) t.count ≡ l → is_met o ≡ not (eqb (length l) 0)
-      go none e [] d = refl
-      go none e (a ∷ l) d =
+      go None e [] d = refl
+      go None e (a ∷ l) d =
           let i = marks-out t.capacity (used_of t) m id (reads t id) t.count a (rw d (Memᴰ.head refl)) in
           absurd ((met-none t m id e).nowhere i.server i.below i.passes i.entry i.is_live)
-      go (some p) e [] d =
+      go (Some p) e [] d =
           let i = met_some t m id p e in
           absurd (Memᴰ.not-nil (rw d at (marks-in t.capacity (used_of t) m id (reads t id) t.count p.server p.entry i.below i.is_read i.is_live)))
-      go (some p) e (a ∷ l) d = rw (ne_eqb (suc (length l)) 0 (λ z. omega arith))
+      go (Some p) e (a ∷ l) d = rw (ne_eqb (suc (length l)) 0 (λ z. omega arith))
 
 module _ (t : Table) (m : List ℕ) (tenant id : ℕ) (z : first_of (asked_rows t m tenant id false) ≡ 0) where
   delete-last : first_of (delete_rows t m tenant id) ≡ cond (is_met (search_for t m id).met) 0 8

@@ -1,7 +1,6 @@
 -- Delete (document 01, "The calls" and its table of refusals; document 02, items 2 and 7): its rows of refusals in the order of the
 -- tests, its reply, and the medium that it leaves, whole and with a number of burns. t is the table and m the medium as lent.
-use Rattle.std.specs.Prelude.{ℕ, Bool, true, false, not, List, [], ◌∷◌, ◌++◌, length, take}
-use Rattle.std.proofs.Math.Option.{Option, none, some}
+use Rattle.std.specs.Prelude.{ℕ, Bool, true, false, not, List, [], ◌∷◌, ◌++◌, length, take, Option, None, Some}
 use Rattle.medium.specs.Word.{deleted}
 use Rattle.medium.specs.Burn.{Burn, burn_all, invalidations}
 use Rattle.table.specs.declared.Table.{Table}
@@ -14,8 +13,8 @@ use Rattle.invalidation.specs.Marks.{marks_from}
 
 -- the search meets an entry
 unfoldable pub is_met : Option Place → Bool
-is_met none = false
-is_met (some p) = true
+is_met None = false
+is_met (Some p) = true
 
 -- the caller's tenant, then the id
 unfoldable pub delete_rows : Table → List ℕ → ℕ → ℕ → List Row

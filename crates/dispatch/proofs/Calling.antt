@@ -5,7 +5,7 @@ use mathlib.Core.Path.{◌≡◌, refl, sym, ap, ap₂, ◌∙◌}
 use mathlib.Core.Logic.{◌≢◌}
 use mathlib.Core.List.{List}
 use lib.ListN.{length}
-use mathlib.Core.Option.{Option, none, some}
+use Rattle.std.specs.Prelude.{Option, None, Some}
 use native.Mathlib.Omega.{arith}
 use lib.Dec.{eqb}
 use borrow.Author.Tests.{eqb-true, eqb-false, ne_eqb}
@@ -34,7 +34,7 @@ abbrev pub Called : State → Option Call → Reply → Table → List ℕ → T
 Called S o r table medium = (r ≡ reply_to S o) × ((table ≡ (next_by S o).table) × (medium ≡ (next_by S o).medium))
 
 -- a number that is no call
-pub no_call : (number tenant subject amount : ℕ) → number ≢ add_server_number → number ≢ reweight_number → number ≢ write_number → number ≢ delete_number → number ≢ lookup_number → call_of number tenant subject amount ≡ none
+pub no_call : (number tenant subject amount : ℕ) → number ≢ add_server_number → number ≢ reweight_number → number ≢ write_number → number ≢ delete_number → number ≢ lookup_number → call_of number tenant subject amount ≡ None
 unfolding call_of
 no_call number tenant subject amount a b c d e = rw (ne_eqb number add_server_number a, ne_eqb number reweight_number b, ne_eqb number write_number c, ne_eqb number delete_number d, ne_eqb number lookup_number e)
 
@@ -122,13 +122,13 @@ module _ (S : State) (number tenant subject amount : ℕ) where
 -- what the code stores of its reply as a cast fits a word
 reply_to-small : (S : State) (o : Option Call) → Small (reply_to S o)
 unfolding reply_to reply
-reply_to-small S none = record { server = omega arith; opened = omega arith; invalidated = omega arith }
-reply_to-small S (some (add_server weight)) = add_server-small S.table S.medium weight
-reply_to-small S (some (reweight server weight)) = reweight-small S.table server weight
-reply_to-small S (some (write tenant id value)) = write-small S.table S.medium tenant id value
-reply_to-small S (some (delete tenant id)) = delete-small S.table S.medium tenant id
-reply_to-small S (some (lookup tenant id)) = lookup-small S.table S.medium tenant id
-reply_to-small S (some (batch tenant ids)) = record { server = omega arith; opened = omega arith; invalidated = omega arith }
+reply_to-small S None = record { server = omega arith; opened = omega arith; invalidated = omega arith }
+reply_to-small S (Some (add_server weight)) = add_server-small S.table S.medium weight
+reply_to-small S (Some (reweight server weight)) = reweight-small S.table server weight
+reply_to-small S (Some (write tenant id value)) = write-small S.table S.medium tenant id value
+reply_to-small S (Some (delete tenant id)) = delete-small S.table S.medium tenant id
+reply_to-small S (Some (lookup tenant id)) = lookup-small S.table S.medium tenant id
+reply_to-small S (Some (batch tenant ids)) = record { server = omega arith; opened = omega arith; invalidated = omega arith }
 
 pub called-small : (S : State) (o : Option Call) (r : Reply) → r ≡ reply_to S o → (r.server < 4294967296) × (r.opened < 4294967296) × (r.invalidated < 4294967296)
 called-small S o r e = let s : Small r = rw e (reply_to-small S o) in (s.server, s.opened, s.invalidated)

@@ -5,7 +5,7 @@ use Prim.Native.Nat.{ℕ, ◌≤◌}
 use mathlib.Core.Path.{◌≡◌, refl, sym, ap, ◌∙◌}
 use mathlib.Core.Bool.{true, false}
 use mathlib.Core.List.{List, [], ◌∷◌}
-use mathlib.Core.Option.{Option, none, some}
+use Rattle.std.specs.Prelude.{Option, None, Some}
 use native.Mathlib.Omega.{arith}
 use lib.ListN.{length, replicate}
 use lib.Dec.{leb}
@@ -55,8 +55,8 @@ module _ (R : Runs) (call : List ℕ) (l : table_length ≤ length R.table) wher
 
 after-joined : (S : State) (o : Option Call) (calls : List Call) → after S (joined o calls) ≡ after (next_by S o) calls
 unfolding turned after_turns joined next_by
-after-joined S none calls = refl
-after-joined S (some c) calls = refl
+after-joined S None calls = refl
+after-joined S (Some c) calls = refl
 
 -- all of them
 pub sequence : (calls : List (List ℕ)) (R : Runs) → table_length ≤ length R.table

@@ -1,7 +1,6 @@
 -- Calls made one after another: each on the table and the medium as the call before left them, with words of its own for its
 -- reply. They are a list of calls, so that what is shown of every list of calls holds of them.
-use Rattle.std.specs.Prelude.{ℕ, cond, List, [], ◌∷◌, length, replicate, leb}
-use Rattle.std.proofs.Math.Option.{Option, none, some}
+use Rattle.std.specs.Prelude.{ℕ, cond, List, [], ◌∷◌, length, replicate, leb, Option, None, Some}
 use Rattle.history.specs.Call.{Call}
 use Rattle.encoding.specs.Encoding.{call_length, reply_length}
 use Rattle.dispatch.specs.ByNumber.{call_at}
@@ -24,12 +23,12 @@ after_calls R (call ∷ calls) =
 
 -- the call that these words are: none where they are too few, or no call
 unfoldable pub call_in : List ℕ → Option Call
-call_in call = cond (leb call_length (length call)) (call_at call 0) none
+call_in call = cond (leb call_length (length call)) (call_at call 0) None
 
 -- the calls that they are, one after another
 unfoldable pub joined : Option Call → List Call → List Call
-joined none calls = calls
-joined (some c) calls = c ∷ calls
+joined None calls = calls
+joined (Some c) calls = c ∷ calls
 
 unfoldable pub calls_of : List (List ℕ) → List Call
 calls_of [] = []

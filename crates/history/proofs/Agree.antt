@@ -6,7 +6,7 @@ use mathlib.Core.Path.{◌≡◌, refl, sym, ap, ap₂, ◌∙◌}
 use mathlib.Core.Logic.{◌≢◌}
 use mathlib.Core.Bool.{Bool, true}
 use mathlib.Core.List.{List}
-use mathlib.Core.Option.{Option, none, some}
+use Rattle.std.specs.Prelude.{Option, None, Some}
 use native.Mathlib.Omega.{arith}
 use lib.ListN.{length}
 use lib.Dec.{ltb, eqb}
@@ -148,8 +148,8 @@ module _ {t : Table} {m : List ℕ} {L : Ledger} (A : Agree t m L) where
   meets id n = go (search_for t m id).met refl
     where
       go : (o : Option Place) → (search_for t m id).met ≡ o → TopAt (B id) t.count t.capacity o
-      go none e = record { off = λ k j l i b. (met-none t m id e).nowhere k l (bears-read id k j n l i b) j (bears-live id k j n l i b) }
-      go (some p) e =
+      go None e = record { off = λ k j l i b. (met-none t m id e).nowhere k l (bears-read id k j n l i b) j (bears-live id k j n l i b) }
+      go (Some p) e =
           let x = met_some t m id p e in
           let u = live-used t.capacity (used_of t p.server) m id p.server p.entry x.is_live in
           record {

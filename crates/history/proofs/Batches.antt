@@ -4,7 +4,7 @@ use Prim.Native.Nat.{ℕ, ◌<◌}
 use mathlib.Core.Path.{◌≡◌, refl, sym, ap, ap₂, ◌∙◌}
 use mathlib.Core.Bool.{Bool, false, ◌&&◌, and-false}
 use mathlib.Core.List.{List}
-use mathlib.Core.Option.{Option, none, some}
+use Rattle.std.specs.Prelude.{Option, None, Some}
 use lib.Dec.{leb, eqb}
 use borrow.Author.Tests.{eqb-true}
 use Rattle.lists.specs.Below.{nth}
@@ -29,8 +29,8 @@ use Rattle.history.proofs.LookupStep.{same_rows, lookup-step}
 
 lowest-from : (events : List Event) (id : ℕ) (o : Option Version) → last_write_of events id ≡ o → lowest (place_of events id) ≡ lowest_l o
 unfolding lowest lowest_l
-lowest-from events id none e = rw (none-placed events id e)
-lowest-from events id (some x) e = rw (came-placed events id x e)
+lowest-from events id None e = rw (none-placed events id e)
+lowest-from events id (Some x) e = rw (came-placed events id x e)
 
 module _ {t : Table} {m : List ℕ} {L : Ledger} (A : Agree t m L) where
   -- a lookup opens the same servers

@@ -5,7 +5,7 @@ use mathlib.Core.Path.{◌≡◌, refl, sym, ap, ap₂, ◌∙◌}
 use mathlib.Core.Logic.{◌⊎◌, inl, inr}
 use mathlib.Core.Bool.{Bool, true, false, cond, not, ◌&&◌}
 use mathlib.Core.List.{List, ◌∷◌}
-use mathlib.Core.Option.{Option, none, some}
+use Rattle.std.specs.Prelude.{Option, None, Some}
 use native.Mathlib.Omega.{arith}
 use lib.ListN.{length, take, drop}
 use lib.Dec.{eqb}
@@ -116,8 +116,8 @@ module _ {t : Table} {m : List ℕ} {L : Ledger} (A : Agree t m L) where
   not_there id k small = go (place_of L.events id) (A.holds.tops id small)
     where
       go : (o : Option Place) → TopAt (bears t.capacity m id) t.count t.capacity o → is_at k (used_by L.events k) o ≡ false
-      go none T = refl
-      go (some p) T = by_bool (eqb p.server k && eqb p.entry (used_by L.events k))
+      go None T = refl
+      go (Some p) T = by_bool (eqb p.server k && eqb p.entry (used_by L.events k))
           (λ d.
           let a = eqb-true p.server k (and_l (eqb p.server k) (eqb p.entry (used_by L.events k)) d) in
           let b = eqb-true p.entry (used_by L.events k) (and_r (eqb p.server k) (eqb p.entry (used_by L.events k)) d) in
@@ -216,13 +216,13 @@ module _ {t : Table} {m : List ℕ} {L : Ledger} (A : Agree t m L) (tenant id : 
 
   module _ (z : first_of (delete_rows t m tenant id) ≡ 0) where
     -- an id that is deleted is there
-    placed : (y : Place) × (place_of L.events id ≡ some y)
+    placed : (y : Place) × (place_of L.events id ≡ Some y)
     unfolding is_met
     placed = go (place_of L.events id) refl
       where
-        go : (o : Option Place) → place_of L.events id ≡ o → (y : Place) × (place_of L.events id ≡ some y)
-        go none q = absurd (true-not-false (met-here A id tenant z) (ap is_met (same_met A id (accepted-id A id tenant z) ∙ q)))
-        go (some y) q = (y, q)
+        go : (o : Option Place) → place_of L.events id ≡ o → (y : Place) × (place_of L.events id ≡ Some y)
+        go None q = absurd (true-not-false (met-here A id tenant z) (ap is_met (same_met A id (accepted-id A id tenant z) ∙ q)))
+        go (Some y) q = (y, q)
 
     went : (b : Bool) → crashed_delete_l L tenant id b ≡ cond b (with_event L (removed id)) L
     unfolding crashed_delete_l
@@ -231,7 +231,7 @@ module _ {t : Table} {m : List ℕ} {L : Ledger} (A : Agree t m L) (tenant id : 
     gone-by : {N : List ℕ} {events : List Event} → length N ≡ length m → Holds t.capacity t.count (reads_l L) events N → is_gone N ≡ not (is_met (place_of events id))
     gone-by long H = ap (λ (o : Option Place). not (is_met o)) (met-is A long H id (accepted-id A id tenant z))
 
-    delete-heard : {N : List ℕ} → length N ≡ length m → (y : Place) → place_of L.events id ≡ some y
+    delete-heard : {N : List ℕ} → length N ≡ length m → (y : Place) → place_of L.events id ≡ Some y
         → Holds t.capacity t.count (reads_l L) (removed id ∷ L.events) N ⊎ Holds t.capacity t.count (reads_l L) L.events N
         → Agree (recover_table t N) N (crashed_delete_l L tenant id (is_gone N))
     unfolding with_events with_event is_met

@@ -4,7 +4,7 @@ use Prim.Native.Nat.{ℕ, ◌<◌}
 use mathlib.Core.Bool.{true, false, not}
 use mathlib.Core.Path.{◌≡◌, refl, ap, ◌∙◌}
 use mathlib.Core.List.{List, []}
-use mathlib.Core.Option.{Option, none, some}
+use Rattle.std.specs.Prelude.{Option, None, Some}
 use borrow.Author.Tests.{not-false}
 use Rattle.limits.specs.Limits.{content_range}
 use Rattle.medium.specs.Word.{deleted}
@@ -30,8 +30,8 @@ module _ {t : Table} {m : List ℕ} {L : Ledger} (A : Agree t m L) (id : ℕ) wh
   same-is_met n = ap is_met (same_met A id n) ∙ go (last_write_of L.events id) refl
     where
       go : (o : Option Version) → last_write_of L.events id ≡ o → is_met (place_of L.events id) ≡ is_written o
-      go none e = rw (none-placed L.events id e)
-      go (some x) e = rw (came-placed L.events id x e)
+      go None e = rw (none-placed L.events id e)
+      go (Some x) e = rw (came-placed L.events id x e)
 
   pub same_rows : (tenant : ℕ) → first_of (delete_rows t m tenant id) ≡ first_of (delete_rows_l L tenant id)
   unfolding delete_rows delete_rows_l

@@ -5,7 +5,7 @@ use mathlib.Core.Path.{◌≡◌, refl, sym, ◌∙◌, subst}
 use mathlib.Core.Logic.{◌≢◌, ◌⊎◌, inl, inr, ⊎_elim}
 use mathlib.Core.Bool.{Bool, true, ◌&&◌, not}
 use mathlib.Core.List.{List, ◌∷◌}
-use mathlib.Core.Option.{some}
+use Rattle.std.specs.Prelude.{Some}
 use native.Mathlib.Omega.{arith}
 use lib.ListN.{length}
 use lib.Dec.{eqb}
@@ -70,7 +70,7 @@ module _ {capacity count : ℕ} {rule : ℕ → ℕ → Bool} {events : List Eve
       (λ d b. G.others a k j l i (λ e. eqb-false id a d (sym e)) b)
 
   -- with some of them burned it has happened, or nothing has
-  outcome : (y : Place) → place_of events id ≡ some y → Top (bears capacity m id) count capacity y
+  outcome : (y : Place) → place_of events id ≡ Some y → Top (bears capacity m id) count capacity y
       → Holds capacity count rule (removed id ∷ events) N ⊎ Holds capacity count rule events N
   unfolding TopAt
   outcome y is top = ⊎_elim
@@ -88,7 +88,7 @@ module _ {capacity count : ℕ} {rule : ℕ → ℕ → Bool} {events : List Eve
   marked n beam = invalidated H id small (rule id) m refl (λ k j q l u b. refl) deleted (omega arith) n beam
 
   -- a crash after any number of burns, where the id is there
-  pub crash-leaves : (y : Place) → place_of events id ≡ some y → (n : ℕ) (beam : Beam)
+  pub crash-leaves : (y : Place) → place_of events id ≡ Some y → (n : ℕ) (beam : Beam)
       → Holds capacity count rule (removed id ∷ events) (struck m burns n beam) ⊎ Holds capacity count rule events (struck m burns n beam)
   unfolding TopAt
   crash-leaves y is n beam = outcome H small (marked n beam) y is (rw is at (H.tops id small))

@@ -4,7 +4,7 @@ use Prim.Native.Nat.{ℕ, suc, ◌+◌, ◌≤◌, ◌<◌}
 use mathlib.Core.Path.{◌≡◌, refl, sym, ap, ◌∙◌}
 use mathlib.Core.Logic.{◌≢◌}
 use mathlib.Core.Bool.{true, cond, not}
-use mathlib.Core.Option.{Option, none, some}
+use Rattle.std.specs.Prelude.{Option, None, Some}
 use mathlib.Core.List.{List, [], ◌∷◌, ◌++◌, tail-eq_of_cons-eq}
 use native.Mathlib.Omega.{arith}
 use lib.ListN.{length}
@@ -21,9 +21,9 @@ place_after older server = record { server = server; entry = used_by older serve
 
 -- where the last write of an id has its entry; the ledger keeps no entries, so the events tell it
 unfoldable pub place_of : List Event → ℕ → Option Place
-place_of [] id = none
-place_of (wrote a value server ∷ older) id = cond (eqb a id) (some (place_after older server)) (place_of older id)
-place_of (removed a ∷ older) id = cond (eqb a id) none (place_of older id)
+place_of [] id = None
+place_of (wrote a value server ∷ older) id = cond (eqb a id) (Some (place_after older server)) (place_of older id)
+place_of (removed a ∷ older) id = cond (eqb a id) None (place_of older id)
 place_of (spent server ∷ older) id = place_of older id
 
 -- what holds of each write among the events, with those newer and those older
@@ -117,14 +117,14 @@ own-entry (x ∷ newer) (y ∷ newer') older older' id value id' value' server e
 -- the last write by recursion is the one in words, in its own entry
 module _ (id value server : ℕ) (older : List Event) where
   newest-written : (newer : List Event) → untouched id newer ≡ true
-      → last_write_of (newer ++ (wrote id value server ∷ older)) id ≡ some (record { value = value; server = server })
+      → last_write_of (newer ++ (wrote id value server ∷ older)) id ≡ Some (record { value = value; server = server })
   unfolding last_write_of untouched
   newest-written [] c = rw (eq-eqb id id refl)
   newest-written (wrote a v k ∷ newer) c = rw (not-true (eqb a id) (and_l (not (eqb a id)) (untouched id newer) c)) (newest-written newer (and_r (not (eqb a id)) (untouched id newer) c))
   newest-written (removed a ∷ newer) c = rw (not-true (eqb a id) (and_l (not (eqb a id)) (untouched id newer) c)) (newest-written newer (and_r (not (eqb a id)) (untouched id newer) c))
   newest-written (spent k ∷ newer) c = newest-written newer c
 
-  newest-placed : (newer : List Event) → untouched id newer ≡ true → place_of (newer ++ (wrote id value server ∷ older)) id ≡ some (place_after older server)
+  newest-placed : (newer : List Event) → untouched id newer ≡ true → place_of (newer ++ (wrote id value server ∷ older)) id ≡ Some (place_after older server)
   unfolding place_of untouched
   newest-placed [] c = rw (eq-eqb id id refl)
   newest-placed (wrote a v k ∷ newer) c = rw (not-true (eqb a id) (and_l (not (eqb a id)) (untouched id newer) c)) (newest-placed newer (and_r (not (eqb a id)) (untouched id newer) c))
@@ -132,10 +132,10 @@ module _ (id value server : ℕ) (older : List Event) where
   newest-placed (spent k ∷ newer) c = newest-placed newer c
 
 module _ (events : List Event) (id value server : ℕ) (w : LastWrite events id value server) where
-  pub last_written : last_write_of events id ≡ some (record { value = value; server = server })
+  pub last_written : last_write_of events id ≡ Some (record { value = value; server = server })
   last_written = ap (λ (h : List Event). last_write_of h id) w.split ∙ newest-written id value server w.older w.newer w.clear
 
-  last-placed : place_of events id ≡ some (place_after w.older server)
+  last-placed : place_of events id ≡ Some (place_after w.older server)
   last-placed = ap (λ (h : List Event). place_of h id) w.split ∙ newest-placed id value server w.older w.newer w.clear
 
 -- and back
@@ -144,36 +144,36 @@ last_on : (e : Event) (events : List Event) (id value server : ℕ) → ((l : Li
 last_on e events id value server u l =
     record { newer = e ∷ l.newer; older = l.older; split = ap (λ (h : List Event). e ∷ h) l.split; clear = u l.newer ∙ l.clear }
 
-pub last-came : (events : List Event) (id : ℕ) (x : Version) → last_write_of events id ≡ some x → LastWrite events id x.value x.server
+pub last-came : (events : List Event) (id : ℕ) (x : Version) → last_write_of events id ≡ Some x → LastWrite events id x.value x.server
 unfolding last_write_of untouched
 last-came [] id x e = let z : ◌≡◌ {A = ℕ} 0 1 = cc in absurd (omega arith)
 last-came (wrote a v k ∷ older) id x e = by_bool (eqb a id)
     (λ d.
-    let q : some (record { value = v; server = k }) ≡ some x = rw d at e in
+    let q : Some (record { value = v; server = k }) ≡ Some x = rw d at e in
     let y : record { value = v; server = k } ≡ x = cc in
     rw (← y, ← (eqb-true a id d)) (record { newer = []; older = older; split = refl; clear = refl }))
     (λ d. last_on (wrote a v k) older id x.value x.server (λ l. rw d) (last-came older id x (rw d at e)))
 last-came (removed a ∷ older) id x e = by_bool (eqb a id)
-    (λ d. let r : none ≡ some x = rw d at e in let z : ◌≡◌ {A = ℕ} 0 1 = cc in absurd (omega arith))
+    (λ d. let r : None ≡ Some x = rw d at e in let z : ◌≡◌ {A = ℕ} 0 1 = cc in absurd (omega arith))
     (λ d. last_on (removed a) older id x.value x.server (λ l. rw d) (last-came older id x (rw d at e)))
 last-came (spent k ∷ older) id x e = last_on (spent k) older id x.value x.server (λ l. refl) (last-came older id x e)
 
-pub came-placed : (events : List Event) (id : ℕ) (x : Version) (e : last_write_of events id ≡ some x)
-    → place_of events id ≡ some (place_after (last-came events id x e).older x.server)
+pub came-placed : (events : List Event) (id : ℕ) (x : Version) (e : last_write_of events id ≡ Some x)
+    → place_of events id ≡ Some (place_after (last-came events id x e).older x.server)
 came-placed events id x e = last-placed events id x.value x.server (last-came events id x e)
 
 -- an id without a last write has no place
-pub none-placed : (events : List Event) (id : ℕ) → last_write_of events id ≡ none → place_of events id ≡ none
+pub none-placed : (events : List Event) (id : ℕ) → last_write_of events id ≡ None → place_of events id ≡ None
 unfolding last_write_of place_of
 none-placed [] id e = refl
 none-placed (wrote a v k ∷ older) id e = by_bool (eqb a id)
-    (λ d. let r : some (record { value = v; server = k }) ≡ none = rw d at e in let z : ◌≡◌ {A = ℕ} 0 1 = cc in absurd (omega arith))
+    (λ d. let r : Some (record { value = v; server = k }) ≡ None = rw d at e in let z : ◌≡◌ {A = ℕ} 0 1 = cc in absurd (omega arith))
     (λ d. rw d (none-placed older id (rw d at e)))
 none-placed (removed a ∷ older) id e = by_bool (eqb a id) (λ d. rw d) (λ d. rw d (none-placed older id (rw d at e)))
 none-placed (spent k ∷ older) id e = none-placed older id e
 
 -- after a write
-pub wrote_self : (id value server : ℕ) (older : List Event) → place_of (wrote id value server ∷ older) id ≡ some (place_after older server)
+pub wrote_self : (id value server : ℕ) (older : List Event) → place_of (wrote id value server ∷ older) id ≡ Some (place_after older server)
 unfolding place_of
 wrote_self id value server older = rw (eq-eqb id id refl)
 
@@ -182,7 +182,7 @@ unfolding place_of
 wrote-other id value server a older f = rw (ne_eqb id a (λ e. f (sym e)))
 
 -- after a delete
-pub removed-self : (id : ℕ) (older : List Event) → place_of (removed id ∷ older) id ≡ none
+pub removed-self : (id : ℕ) (older : List Event) → place_of (removed id ∷ older) id ≡ None
 unfolding place_of
 removed-self id older = rw (eq-eqb id id refl)
 

@@ -4,7 +4,7 @@ use Prim.Native.Nat.{ℕ, ◌<◌}
 use mathlib.Core.Path.{◌≡◌, refl, ap, ap₂, ◌∙◌}
 use mathlib.Core.Bool.{Bool, false, ◌&&◌}
 use mathlib.Core.List.{List}
-use mathlib.Core.Option.{Option, none, some}
+use Rattle.std.specs.Prelude.{Option, None, Some}
 use native.Mathlib.Omega.{arith}
 use lib.ListN.{length}
 use lib.Dec.{leb}
@@ -52,7 +52,7 @@ module _ {t : Table} {m : List ℕ} {L : Ledger} (A : Agree t m L) (id : ℕ) wh
   opened-number = (opened-are t m id).number ∙ same-opened (lowest (search_for t m id).met)
 
   -- the words of the last write
-  pub last-write-words : (x : Version) (e : last_write_of L.events id ≡ some x)
+  pub last-write-words : (x : Version) (e : last_write_of L.events id ≡ Some x)
       → InEntry t.capacity m id x.value x.server (used_by (last-came L.events id x e).older x.server)
   last-write-words x e = let w = last-came L.events id x e in A.holds.written w.newer w.older id x.value x.server w.split
 
@@ -64,8 +64,8 @@ module _ {t : Table} {m : List ℕ} {L : Ledger} (A : Agree t m L) (id : ℕ) wh
     where
       go : (o : Option Version) → last_write_of L.events id ≡ o
           → compared (met_reply t.capacity m (opened_from L id (lowest (place_of L.events id))) (place_of L.events id)) ≡ last_write_reply L id o
-      go none e = rw (none-placed L.events id e)
-      go (some x) e =
+      go None e = rw (none-placed L.events id e)
+      go (Some x) e =
           let w = last-write-words x e in
           let tag : tag_of (value_word x.value) ≡ 1 = omega (arith, w.value_small) in
           let content : content_of (value_word x.value) ≡ x.value = omega (arith, w.value_small) in

@@ -5,7 +5,7 @@ use mathlib.Core.Path.{◌≡◌, refl, sym, ap, subst}
 use mathlib.Core.Logic.{◌≢◌}
 use mathlib.Core.Bool.{Bool, true, not, ◌&&◌}
 use mathlib.Core.List.{List, [], ◌∷◌}
-use mathlib.Core.Option.{Option, none, some}
+use Rattle.std.specs.Prelude.{Option, None, Some}
 use lib.ListN.{length}
 use lib.Dec.{ltb, eqb}
 use borrow.Author.Tests.{not-true, eqb-false, ltb-false}
@@ -52,8 +52,8 @@ entered-usual L rows done u v = entered (λ e. usual e.reply.refusal ≡ true) L
 
 last-write-usual : (L : Ledger) (id : ℕ) (o : Option Version) → usual (last_write_reply L id o).refusal ≡ true
 unfolding last_write_reply usual
-last-write-usual L id none = refl
-last-write-usual L id (some x) = refl
+last-write-usual L id None = refl
+last-write-usual L id (Some x) = refl
 
 enter-usual : (L : Ledger) (c : Call) → usual (enter L c).reply.refusal ≡ true
 unfolding enter rows_of done_of add_server_rows_l reweight_rows_l asked_rows_l write_rows_l delete_rows_l lookup_rows_l batch_rows_l usual_rows usual

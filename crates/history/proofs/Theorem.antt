@@ -5,7 +5,7 @@ use mathlib.Core.Bool.{false}
 use mathlib.Core.Path.{◌≡◌, refl, sym, ap, ◌∙◌}
 use mathlib.Core.Logic.{◌↔◌, ◌≢◌, ◌⊎◌, inl, inr}
 use mathlib.Core.List.{List, ◌∷◌, ◌++◌}
-use mathlib.Core.Option.{Option, none, some}
+use Rattle.std.specs.Prelude.{Option, None, Some}
 use native.Mathlib.Omega.{arith}
 use lib.ListN.{length}
 use lib.Dec.{eqb}
@@ -76,7 +76,7 @@ module _ (S : State) (L : Ledger) (A : Agrees S L) where
       let same = entry-apart L.capacity server (used_by older server) a server' (used_by older' server') b inside inside' l l' h in
       own-entry newer newer' older older' id value id' value' server (sym e ∙ rw (← same.0) at e') (same.1 ∙ ap (used_by older') (sym same.0))
 
-  finds : (id : ℕ) (x : Version) → last_write_of L.events id ≡ some x → ((reply id).refusal ≡ 0) × ((reply id).value ≡ x.value)
+  finds : (id : ℕ) (x : Version) → last_write_of L.events id ≡ Some x → ((reply id).refusal ≡ 0) × ((reply id).value ≡ x.value)
   unfolding compared last_write_reply
   finds id x e =
       let w = last-came L.events id x e in
@@ -84,22 +84,22 @@ module _ (S : State) (L : Ledger) (A : Agrees S L) where
       let r = looked A id (last-write-words A id x e).id_small (omega (arith, A.count, s.there)) ∙ ap (last_write_reply L id) e in
       (ap (λ (c : Compared). c.refusal) r, ap (λ (c : Compared). c.value) r)
 
-  absent : (id : ℕ) → id < content_range → 0 < L.servers → ((reply id).refusal ≡ 8) ↔ (last_write_of L.events id ≡ none)
+  absent : (id : ℕ) → id < content_range → 0 < L.servers → ((reply id).refusal ≡ 8) ↔ (last_write_of L.events id ≡ None)
   unfolding compared last_write_reply
   absent id n l = (
     λ r. go r (last_write_of L.events id) refl,
     λ e. ap (λ (c : Compared). c.refusal) (looked A id n (omega (arith, A.count)) ∙ ap (last_write_reply L id) e),
   )
     where
-      go : (reply id).refusal ≡ 8 → (o : Option Version) → last_write_of L.events id ≡ o → o ≡ none
-      go r none e = refl
-      go r (some x) e = absurd (omega (arith, (finds id x e).0))
+      go : (reply id).refusal ≡ 8 → (o : Option Version) → last_write_of L.events id ≡ o → o ≡ None
+      go r None e = refl
+      go r (Some x) e = absurd (omega (arith, (finds id x e).0))
 
 -- what a lookup replies, whole, by what is compared of it
 met-none-invalidated : (capacity : ℕ) (m : List ℕ) (opened : ℕ) (o : Option Place) → (met_reply capacity m opened o).invalidated ≡ 0
 unfolding met_reply
-met-none-invalidated capacity m opened none = refl
-met-none-invalidated capacity m opened (some p) = by_bool (eqb (tag_of (nth m (value_at capacity p.server p.entry))) 1) (λ d. rw d) (λ d. rw d)
+met-none-invalidated capacity m opened None = refl
+met-none-invalidated capacity m opened (Some p) = by_bool (eqb (tag_of (nth m (value_at capacity p.server p.entry))) 1) (λ d. rw d) (λ d. rw d)
 
 none-invalidated : (t : Table) (m : List ℕ) (tenant id : ℕ) → (lookup_reply t m tenant id).invalidated ≡ 0
 unfolding lookup_reply reply_by
@@ -113,8 +113,8 @@ whole-reply r s e f = λ i. record { refusal = (e i).refusal; server = (e i).ser
 module _ (L : Ledger) (x : Event) (tenant a : ℕ) where
   event-reply : (o : Option Version) → last_write_reply (with_event L x) a o ≡ last_write_reply L a o
   unfolding last_write_reply with_event opened_from
-  event-reply none = refl
-  event-reply (some y) = refl
+  event-reply None = refl
+  event-reply (Some y) = refl
 
   same-look : last_write_of (x ∷ L.events) a ≡ last_write_of L.events a → (enter (with_event L x) (lookup tenant a)).reply ≡ (enter L (lookup tenant a)).reply
   unfolding enter rows_of done_of lookup_rows_l asked_rows_l short_l with_event
@@ -137,11 +137,11 @@ spent-aside : (k a : ℕ) (older : List Event) → last_write_of (spent k ∷ ol
 unfolding last_write_of
 spent-aside k a older = refl
 
-wrote-last : (id value k : ℕ) (older : List Event) → last_write_of (wrote id value k ∷ older) id ≡ some (record { value = value; server = k })
+wrote-last : (id value k : ℕ) (older : List Event) → last_write_of (wrote id value k ∷ older) id ≡ Some (record { value = value; server = k })
 unfolding last_write_of
 wrote-last id value k older = rw (eq-eqb id id refl)
 
-removed-last : (id : ℕ) (older : List Event) → last_write_of (removed id ∷ older) id ≡ none
+removed-last : (id : ℕ) (older : List Event) → last_write_of (removed id ∷ older) id ≡ None
 unfolding last_write_of
 removed-last id older = rw (eq-eqb id id refl)
 
@@ -154,11 +154,11 @@ module _ (S : State) (L : Ledger) (A : Agrees S L) where
       (none-invalidated R.table R.medium (tenant_of a) a ∙ sym (none-invalidated S.table S.medium (tenant_of a) a))
 
   -- the last write after the event
-  written : (id value : ℕ) → last_write_of (with_event L (wrote id value (target_l L id))).events id ≡ some (record { value = value; server = target_l L id })
+  written : (id value : ℕ) → last_write_of (with_event L (wrote id value (target_l L id))).events id ≡ Some (record { value = value; server = target_l L id })
   unfolding with_event
   written id value = wrote-last id value (target_l L id) L.events
 
-  gone : (id : ℕ) → last_write_of (with_event L (removed id)).events id ≡ none
+  gone : (id : ℕ) → last_write_of (with_event L (removed id)).events id ≡ None
   unfolding with_event
   gone id = removed-last id L.events
 
@@ -222,12 +222,12 @@ module _ (S : State) (L : Ledger) (A : Agrees S L) where
   idle = ((recover-idle A).0, ap (λ (t : Table). record { table = t; medium = S.medium }) (recover-idle A).1)
 
 -- an id has a last write or none, and not both
-not-both : {o : Option Version} {x : Version} → o ≡ none → o ≡ some x → ⊥
+not-both : {o : Option Version} {x : Version} → o ≡ None → o ≡ Some x → ⊥
 not-both p q = let z : ◌≡◌ {A = ℕ} 0 1 = cc in omega arith
 
-nothing : (o : Option Version) → ((x : Version) → o ≡ some x → ⊥) → o ≡ none
-nothing none f = refl
-nothing (some x) f = absurd (f x refl)
+nothing : (o : Option Version) → ((x : Version) → o ≡ Some x → ⊥) → o ≡ None
+nothing None f = refl
+nothing (Some x) f = absurd (f x refl)
 
 pub demand3 : (capacity salt n : ℕ) → first_of (start_rows capacity salt) ≡ 0 → (turns : List Turn) → Demand3 capacity salt n turns
 unfolding compared fresh_ledger taken

@@ -3,7 +3,7 @@
 use Prim.Native.Nat.{ℕ, suc, ◌≤◌, ◌<◌}
 use mathlib.Core.Path.{◌≡◌, refl, sym, ap, ◌∙◌}
 use mathlib.Core.Bool.{Bool, true}
-use mathlib.Core.Option.{Option, none, some}
+use Rattle.std.specs.Prelude.{Option, None, Some}
 use native.Mathlib.Omega.{arith}
 use lib.Dec.{eqb}
 use borrow.Author.Tests.{eqb-true, eqb-false}
@@ -30,27 +30,27 @@ module _ (B : ℕ → ℕ → Bool) (count capacity : ℕ) where
     pub off : (k j : ℕ) → k < count → j < capacity → B k j ≡ true → ⊥
 
   unfoldable pub TopAt : Option Place → Type 0
-  TopAt none = Nowhere
-  TopAt (some p) = Top p
+  TopAt None = Nowhere
+  TopAt (Some p) = Top p
 
   -- there is only one
   pub top-same : (o r : Option Place) → TopAt o → TopAt r → o ≡ r
   unfolding TopAt
-  top-same none none x y = refl
-  top-same none (some q) x y = absurd (x.off q.server q.entry y.low y.inside y.on)
-  top-same (some p) none x y = absurd (y.off p.server p.entry x.low x.inside x.on)
-  top-same (some p) (some q) x y =
+  top-same None None x y = refl
+  top-same None (Some q) x y = absurd (x.off q.server q.entry y.low y.inside y.on)
+  top-same (Some p) None x y = absurd (y.off p.server p.entry x.low x.inside x.on)
+  top-same (Some p) (Some q) x y =
       let a = x.above q.server q.entry y.low y.inside y.on in
       let b = y.above p.server p.entry x.low x.inside x.on in
       let s : p.server ≡ q.server = omega (arith, a.below, b.below) in
-      ap some (place-eq p q s (omega (arith, a.beside (sym s), b.beside s)))
+      ap Some (place-eq p q s (omega (arith, a.beside (sym s), b.beside s)))
 
 -- of two tests that agree
 pub top-cong : (B C : ℕ → ℕ → Bool) (count capacity : ℕ) → ((k j : ℕ) → k < count → j < capacity → C k j ≡ B k j)
     → (o : Option Place) → TopAt B count capacity o → TopAt C count capacity o
 unfolding TopAt
-top-cong B C count capacity h none x = record { off = λ k j l i b. x.off k j l i (sym (h k j l i) ∙ b) }
-top-cong B C count capacity h (some p) x = record {
+top-cong B C count capacity h None x = record { off = λ k j l i b. x.off k j l i (sym (h k j l i) ∙ b) }
+top-cong B C count capacity h (Some p) x = record {
   low = x.low;
   inside = x.inside;
   on = h p.server p.entry x.low x.inside ∙ x.on;
@@ -66,8 +66,8 @@ module _ (B : ℕ → ℕ → Bool) (count capacity : ℕ) (bare : (j : ℕ) →
 
   pub top-wider : (o : Option Place) → TopAt B count capacity o → TopAt B (suc count) capacity o
   unfolding TopAt
-  top-wider none x = record { off = λ k j l i b. x.off k j (not_last k j l i b) i b }
-  top-wider (some p) x = record {
+  top-wider None x = record { off = λ k j l i b. x.off k j (not_last k j l i b) i b }
+  top-wider (Some p) x = record {
     low = omega (arith, x.low);
     inside = x.inside;
     on = x.on;

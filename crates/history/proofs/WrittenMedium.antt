@@ -5,7 +5,7 @@ use mathlib.Core.Path.{◌≡◌, refl, sym, ap, ap₂, ◌∙◌, subst}
 use mathlib.Core.Logic.{◌≢◌, ◌⊎◌, inl, inr, ⊎_elim}
 use mathlib.Core.Bool.{Bool, true, false, ◌&&◌, not}
 use mathlib.Core.List.{List, ◌∷◌}
-use mathlib.Core.Option.{Option, none, some}
+use Rattle.std.specs.Prelude.{Option, None, Some}
 use native.Mathlib.Omega.{arith}
 use native.Mathlib.Nat.{add-zero}
 use lib.ListN.{length}
@@ -269,7 +269,7 @@ module _ {capacity count : ℕ} {rule : ℕ → ℕ → Bool} {events : List Eve
       (same ∙ o))
 
   -- with some of them burned it has happened, or the entry is spent
-  module _ (y : Place) (top : Top (bears capacity m id) count capacity y) (is : place_of events id ≡ some y) where
+  module _ (y : Place) (top : Top (bears capacity m id) count capacity y) (is : place_of events id ≡ Some y) where
     still-top : server < y.server → bears capacity N id y.server y.entry ≡ true → Top (bears capacity N id) count capacity y
     still-top up on = record { low = top.low; inside = top.inside; on = on; above = λ k j l i b. go k j l i (from id k j i b) }
       where
@@ -292,5 +292,5 @@ module _ {capacity count : ℕ} {rule : ℕ → ℕ → Bool} {events : List Eve
     where
       go : (o : Option Place) → place_of events id ≡ o → TopAt (bears capacity m id) count capacity o
           → Holds capacity count rule (wrote id value server ∷ events) N ⊎ Holds capacity count rule (spent server ∷ events) N
-      go none q top = inl (happened (new-top (λ k j l i o b. absurd (top.off k j l i o))))
-      go (some y) q top = by_order y top q
+      go None q top = inl (happened (new-top (λ k j l i o b. absurd (top.off k j l i o))))
+      go (Some y) q top = by_order y top q

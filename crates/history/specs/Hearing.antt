@@ -1,7 +1,6 @@
 -- What the ledger hears of a list of turns: of a call its arguments, of a crashed call besides what the medium shows. The outcome of a
 -- crashed call is told by server and entry of what a lookup meets after the recover, and never by a value.
-use Rattle.std.specs.Prelude.{ℕ, Bool, false, not, ◌&&◌, List, [], ◌∷◌, eqb}
-use Rattle.std.proofs.Math.Option.{Option, none, some}
+use Rattle.std.specs.Prelude.{ℕ, Bool, false, not, ◌&&◌, List, [], ◌∷◌, eqb, Option, None, Some}
 use Rattle.table.specs.Parts.{used_of}
 use Rattle.search.specs.Search.{Place, search_for}
 use Rattle.deletion.specs.Deletion.{is_met}
@@ -16,8 +15,8 @@ met_by S id = (search_for S.table S.medium id).met
 
 -- it is entry j of server k
 unfoldable pub is_at : ℕ → ℕ → Option Place → Bool
-is_at k j none = false
-is_at k j (some p) = eqb p.server k && eqb p.entry j
+is_at k j None = false
+is_at k j (Some p) = eqb p.server k && eqb p.entry j
 
 unfoldable pub hear : State → Turn → Heard
 hear S (plain c) = heard c

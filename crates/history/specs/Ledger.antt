@@ -1,8 +1,7 @@
 -- The plain ledger (document 01, "The plain ledger"; document 02, items 2, 4 and 7). It is fed the capacity, the salt, the medium's
 -- length and the calls' arguments, and nothing from table or medium but, for crashed calls only, what `Heard` has; of the archive it shares the published rule, which of two
 -- fractions is kept (`raise`), whose an id is, and how rows of refusals and the parts of a batch are put together.
-use Rattle.std.specs.Prelude.{ℕ, suc, ◌+◌, ◌-◌, ◌*◌, Bool, true, false, cond, not, ◌&&◌, ◌||◌, List, [], ◌∷◌, ◌++◌, map, length, leb, ltb, eqb}
-use Rattle.std.proofs.Math.Option.{Option, none, some}
+use Rattle.std.specs.Prelude.{ℕ, suc, ◌+◌, ◌-◌, ◌*◌, Bool, true, false, cond, not, ◌&&◌, ◌||◌, List, [], ◌∷◌, ◌++◌, map, length, leb, ltb, eqb, Option, None, Some}
 use Rattle.limits.specs.Limits.{max_servers, content_range}
 use Rattle.lists.specs.Below.{nth, count_below}
 use Rattle.tenants.specs.Tenant.{out_of_range, of_another}
@@ -64,16 +63,16 @@ pub record Version : Type 0 where
 
 -- the last write of an id with no delete of it afterwards
 unfoldable pub last_write_of : List Event → ℕ → Option Version
-last_write_of [] id = none
+last_write_of [] id = None
 last_write_of (wrote a value server ∷ older) id =
-    cond (eqb a id) (some (record { value = value; server = server })) (last_write_of older id)
-last_write_of (removed a ∷ older) id = cond (eqb a id) none (last_write_of older id)
+    cond (eqb a id) (Some (record { value = value; server = server })) (last_write_of older id)
+last_write_of (removed a ∷ older) id = cond (eqb a id) None (last_write_of older id)
 last_write_of (spent server ∷ older) id = last_write_of older id
 
 -- the id has such a write
 unfoldable pub is_written : Option Version → Bool
-is_written none = false
-is_written (some x) = true
+is_written None = false
+is_written (Some x) = true
 
 -- what a call makes of the ledger, and its reply
 pub record Entered : Type 0 where
@@ -190,8 +189,8 @@ unfoldable pub opened_from : Ledger → ℕ → ℕ → ℕ
 opened_from L id from = count_below (λ k. leb from k && reads_l L id k) L.servers
 
 unfoldable pub last_write_reply : Ledger → ℕ → Option Version → Compared
-last_write_reply L id none = told 8 0 0 (opened_from L id 0)
-last_write_reply L id (some x) = told 0 0 x.value (opened_from L id x.server)
+last_write_reply L id None = told 8 0 0 (opened_from L id 0)
+last_write_reply L id (Some x) = told 0 0 x.value (opened_from L id x.server)
 
 -- a lookup changes nothing
 abbrev pub lookup_l : Ledger → ℕ → ℕ → Entered
@@ -201,8 +200,8 @@ lookup_l L tenant id = enter_by L (lookup_rows_l L tenant id) (record { reply = 
 
 -- the lowest server that a lookup of the id may open
 unfoldable pub lowest_l : Option Version → ℕ
-lowest_l none = 0
-lowest_l (some x) = x.server
+lowest_l None = 0
+lowest_l (Some x) = x.server
 
 unfoldable pub opens_l : Ledger → ℕ → ℕ → ℕ → Bool
 opens_l L tenant id k = settle (lookup_rows_l L tenant id) (leb (lowest_l (last_write_of L.events id)) k && reads_l L id k) false

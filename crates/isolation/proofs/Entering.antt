@@ -3,7 +3,7 @@
 use Prim.Native.Nat.{ℕ}
 use mathlib.Core.Path.{◌≡◌, refl, sym, ap, ◌∙◌}
 use mathlib.Core.Bool.{Bool, true, false, not, ◌||◌}
-use mathlib.Core.Option.{Option, none, some}
+use Rattle.std.specs.Prelude.{Option, None, Some}
 use native.Mathlib.Omega.{arith}
 use lib.Dec.{eqb}
 use borrow.Author.Tests.{eqb-true, eq-eqb, le-ltb}
@@ -58,8 +58,8 @@ module _ (tenant : ℕ) (L : Ledger) where
 
   reply-view : (id : ℕ) (o : Option Version) → last_write_reply L id o ≡ last_write_reply (view tenant L) id o
   unfolding last_write_reply opened_from trimmed
-  reply-view id none = refl
-  reply-view id (some x) = refl
+  reply-view id None = refl
+  reply-view id (Some x) = refl
 
   -- an accepted call that is seen enters the same in the view
   seen_done : (c : Call) → sees tenant c ≡ true → first_of (rows_of L c) ≡ 0

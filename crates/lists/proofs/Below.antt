@@ -8,7 +8,7 @@ use lib.ListN.{length, set, replicate, length-set, length-replicate, length-appe
 use lib.Seq.{sets, get_or-set_same, get_or-set_other, get_or-append-add, ext_get_or}
 use mathlib.Core.Path.{◌≡◌, refl, sym, ap, ◌∙◌, subst}
 use mathlib.Core.Bool.{Bool, true, false, cond, not, ◌&&◌, ◌||◌}
-use mathlib.Core.Option.{some}
+use Rattle.std.specs.Prelude.{Some}
 use native.Mathlib.Nat.{add-zero, add-suc, suc-add, mul-zero, mul-suc}
 use native.Mathlib.Numerals.{add-one, sub-one}
 use native.Mathlib.Omega.{arith}
@@ -110,7 +110,7 @@ unfolding total
 total-last f zero l = absurd (omega arith)
 total-last f (suc n) l = rw sub-one refl
 
-pub highest-last : (p : ℕ → Bool) (n : ℕ) (b : Bool) → 0 < n → p (n - 1) ≡ b → highest p n ≡ cond b (some (n - 1)) (highest p (n - 1))
+pub highest-last : (p : ℕ → Bool) (n : ℕ) (b : Bool) → 0 < n → p (n - 1) ≡ b → highest p n ≡ cond b (Some (n - 1)) (highest p (n - 1))
 unfolding highest
 highest-last p zero b l e = absurd (omega arith)
 highest-last p (suc n) b l e = let d : p n ≡ b = rw sub-one at e in rw (sub-one, d)

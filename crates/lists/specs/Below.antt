@@ -1,6 +1,5 @@
 -- Testing, choosing, counting and adding among the numbers below n.
-use Rattle.std.specs.Prelude.{ℕ, zero, suc, ◌+◌, Bool, true, false, cond, ◌&&◌, ◌||◌, List, [], ◌∷◌, ◌++◌, get_or, set}
-use Rattle.std.proofs.Math.Option.{Option, none, some}
+use Rattle.std.specs.Prelude.{ℕ, zero, suc, ◌+◌, Bool, true, false, cond, ◌&&◌, ◌||◌, List, [], ◌∷◌, ◌++◌, get_or, set, Option, None, Some}
 
 -- what stands at position k of a list of numbers, and 0 past its end
 abbrev pub nth : List ℕ → ℕ → ℕ
@@ -18,12 +17,12 @@ some_below p (suc n) = p n || some_below p n
 
 -- the highest number below n that passes
 unfoldable pub highest : (ℕ → Bool) → ℕ → Option ℕ
-highest p zero = none
-highest p (suc n) = cond (p n) (some n) (highest p n)
+highest p zero = None
+highest p (suc n) = cond (p n) (Some n) (highest p n)
 
 unfoldable pub or_zero : Option ℕ → ℕ
-or_zero none = 0
-or_zero (some n) = n
+or_zero None = 0
+or_zero (Some n) = n
 
 -- the numbers below n that pass, lowest first
 unfoldable pub upward : (ℕ → Bool) → ℕ → List ℕ

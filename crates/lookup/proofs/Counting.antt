@@ -5,7 +5,7 @@ use Prim.Native.Nat.{ℕ}
 use mathlib.Core.Path.{◌≡◌, refl, ap, ◌∙◌}
 use mathlib.Core.Logic.{◌≢◌}
 use mathlib.Core.List.{List}
-use mathlib.Core.Option.{Option, none, some}
+use Rattle.std.specs.Prelude.{Option, None, Some}
 use lib.ListN.{length}
 use lib.Dec.{eqb}
 use Rattle.lists.specs.Below.{nth}
@@ -29,8 +29,8 @@ opened-none t tenant = ap (with_counters t) (counted_none t.counters tenant)
 
 pub met-opened : (capacity : ℕ) (m : List ℕ) (opened : ℕ) (o : Option Place) → (met_reply capacity m opened o).opened ≡ opened
 unfolding met_reply
-met-opened capacity m opened none = refl
-met-opened capacity m opened (some p) =
+met-opened capacity m opened None = refl
+met-opened capacity m opened (Some p) =
     by_bool (eqb (tag_of (nth m (value_at capacity p.server p.entry))) 1) (λ e. rw e refl) (λ e. rw e refl)
 
 module _ (t : Table) (m : List ℕ) (tenant id : ℕ) where

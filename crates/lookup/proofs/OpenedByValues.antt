@@ -4,7 +4,7 @@ use Prim.Native.Nat.{ℕ, zero, suc, ◌+◌, ◌<◌}
 use mathlib.Core.Path.{◌≡◌, refl, sym, ap, ap₂, ◌∙◌}
 use mathlib.Core.Bool.{true, cond, ◌&&◌}
 use mathlib.Core.List.{List}
-use mathlib.Core.Option.{Option, none, some}
+use Rattle.std.specs.Prelude.{Option, None, Some}
 use native.Mathlib.Omega.{arith}
 use native.Mathlib.Nat.{add-zero}
 use lib.ListN.{length}
@@ -42,10 +42,10 @@ module _ (t u : Table) (m w : List ℕ) (id : ℕ) where
   same-search (suc n) r h = search-cases t m id (λ (s : Search). SameLast (suc n) s → s ≡ search_below u w id (suc n)) n
       (λ e f. rw (sym (r n (omega arith)) ∙ e) (same-search n (λ k l. r k (omega arith)) (λ k l. f k (omega arith))))
       (λ e d f.
-      let o : last_live u w id n ≡ none = sym (f n (omega arith) (and_i _ _ (search-low t m id n) e)) ∙ d in
-      rw (sym (r n (omega arith)) ∙ e, o) (ap (opening n none) (same-search n (λ k l. r k (omega arith)) (λ k l. f k (omega arith)))))
+      let o : last_live u w id n ≡ None = sym (f n (omega arith) (and_i _ _ (search-low t m id n) e)) ∙ d in
+      rw (sym (r n (omega arith)) ∙ e, o) (ap (opening n None) (same-search n (λ k l. r k (omega arith)) (λ k l. f k (omega arith)))))
       (λ j e d f.
-      let o : last_live u w id n ≡ some j = sym (f n (omega arith) (and_i _ _ (le-leb n n (omega arith)) e)) ∙ d in
+      let o : last_live u w id n ≡ Some j = sym (f n (omega arith) (and_i _ _ (le-leb n n (omega arith)) e)) ∙ d in
       rw (sym (r n (omega arith)) ∙ e, o))
       h
 
@@ -72,7 +72,7 @@ module _ (t u : Table) (m w : List ℕ) (id : ℕ) where
     same_met = same-search t.count (λ k l. reads_same t u id k a.salt (a.read_ps k l)) same-last ∙ ap (search_below u w id) a.count
 
     -- the value word of the entry met
-    same-value : (p : Place) → (search_for t m id).met ≡ some p
+    same-value : (p : Place) → (search_for t m id).met ≡ Some p
         → nth m (value_at t.capacity p.server p.entry) ≡ nth w (value_at u.capacity p.server p.entry)
     unfolding opens lowest
     same-value p e =
@@ -83,8 +83,8 @@ module _ (t u : Table) (m w : List ℕ) (id : ℕ) where
 
     same-reply : (n : ℕ) (o : Option Place) → (search_for t m id).met ≡ o → met_reply t.capacity m n o ≡ met_reply u.capacity w n o
     unfolding met_reply
-    same-reply n none e = refl
-    same-reply n (some p) e = ap (λ (x : ℕ). cond (eqb (tag_of x) 1) (found (content_of x) n) (refused 10 n)) (same-value p e)
+    same-reply n None e = refl
+    same-reply n (Some p) e = ap (λ (x : ℕ). cond (eqb (tag_of x) 1) (found (content_of x) n) (refused 10 n)) (same-value p e)
 
     same_rows : (tenant : ℕ) → first_of (lookup_rows t m tenant id) ≡ first_of (lookup_rows u w tenant id)
     unfolding lookup_rows short

@@ -3,7 +3,7 @@
 use Prim.Native.Nat.{ℕ}
 use mathlib.Core.Path.{◌≡◌, refl}
 use mathlib.Core.List.{List}
-use mathlib.Core.Option.{Option, none, some}
+use Rattle.std.specs.Prelude.{Option, None, Some}
 use lib.Dec.{eqb}
 use Rattle.lists.specs.Below.{nth}
 use Rattle.lists.proofs.Tests.{by_bool}
@@ -22,8 +22,8 @@ pub record Plain (r : Reply) : Type 0 where
 
 met-plain : (capacity : ℕ) (m : List ℕ) (opened : ℕ) (o : Option Place) → Plain (met_reply capacity m opened o)
 unfolding met_reply
-met-plain capacity m opened none = record { server = refl; invalidated = refl }
-met-plain capacity m opened (some p) =
+met-plain capacity m opened None = record { server = refl; invalidated = refl }
+met-plain capacity m opened (Some p) =
     by_bool (eqb (tag_of (nth m (value_at capacity p.server p.entry))) 1)
     (λ e. rw e (record { server = refl; invalidated = refl }))
     (λ e. rw e (record { server = refl; invalidated = refl }))

@@ -4,7 +4,7 @@ use Prim.Native.Nat.{ℕ, ◌<◌}
 use mathlib.Core.Path.{◌≡◌, refl}
 use mathlib.Core.Bool.{true}
 use mathlib.Core.List.{List}
-use mathlib.Core.Option.{Option, none, some}
+use Rattle.std.specs.Prelude.{Option, None, Some}
 use native.Mathlib.Omega.{arith}
 use lib.ListN.{length}
 use borrow.Author.Tests.{le-leb, eqb-false}
@@ -44,8 +44,8 @@ module _ (t : Table) (m : List ℕ) (tenant id : ℕ) (z : first_of (lookup_rows
   ends_there = go (search_for t m id).met refl
     where
       go : (o : Option Place) → (search_for t m id).met ≡ o → (lowest o < t.count) × (opens t m id (lowest o) ≡ true)
-      go none e = (some-server, rw (e, le-leb 0 0 (omega arith)) (zero-read t (lookup-accepted t m tenant id z).is_sound some-server id))
-      go (some p) e = let i = met_some t m id p e in (i.below, rw (e, le-leb p.server p.server (omega arith)) i.is_read)
+      go None e = (some-server, rw (e, le-leb 0 0 (omega arith)) (zero-read t (lookup-accepted t m tenant id z).is_sound some-server id))
+      go (Some p) e = let i = met_some t m id p e in (i.below, rw (e, le-leb p.server p.server (omega arith)) i.is_read)
 
   pub opens-some : 0 < length (search_for t m id).opened
   opens-some = omega (arith, (opened-are t m id).number, count_below-less (opens t m id) t.count _ ends_there.0 ends_there.1)

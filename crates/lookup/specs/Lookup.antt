@@ -1,8 +1,7 @@
 -- Lookup (document 01, "The calls" and its table of refusals; document 02, items 2 and 5): its rows of refusals in the order of the
 -- tests, its reply, and the table that it leaves.
 -- t is the table and m the medium as lent.
-use Rattle.std.specs.Prelude.{ℕ, false, cond, List, length, eqb}
-use Rattle.std.proofs.Math.Option.{Option, none, some}
+use Rattle.std.specs.Prelude.{ℕ, false, cond, List, length, eqb, Option, None, Some}
 use Rattle.lists.specs.Below.{nth}
 use Rattle.words.specs.Word.{tag_of, content_of}
 use Rattle.medium.specs.Entry.{value_at}
@@ -20,8 +19,8 @@ lookup_rows t m tenant id = asked_rows t m tenant id false
 
 -- what the search says: 8 where it meets no entry, 10 where the value word that it found is of another tag
 unfoldable pub met_reply : ℕ → List ℕ → ℕ → Option Place → Reply
-met_reply capacity m opened none = refused 8 opened
-met_reply capacity m opened (some p) =
+met_reply capacity m opened None = refused 8 opened
+met_reply capacity m opened (Some p) =
     let word = nth m (value_at capacity p.server p.entry) in
     cond (eqb (tag_of word) 1) (found (content_of word) opened) (refused 10 opened)
 

@@ -1,8 +1,7 @@
 // Lookup: the value of an id, or why there is none, and how many servers were opened, which the table counts for the tenant.
 #![tactic(auto)]
 
-ghost use Rattle.std.specs.Prelude.{◌≡◌, true, ◌<◌};
-ghost use Rattle.std.proofs.Math.Option.{some};
+ghost use Rattle.std.specs.Prelude.{◌≡◌, true, ◌<◌, Some};
 ghost use Rattle.draws.specs.Draw.{are_steps};
 ghost use Rattle.medium.specs.Entry.{Inside};
 ghost use Rattle.table.specs.Parts.{table_of, Whole};
@@ -30,7 +29,7 @@ pub fn met(
 ) -> LookupAnswer
     requires inside { Inside capacity server medium.now }
     requires lt_capacity { entry < capacity }
-    ensures { reply_of_lookup result ≡ met_reply capacity medium.now opened (some (record { server = server; entry = entry })) }
+    ensures { reply_of_lookup result ≡ met_reply capacity medium.now opened (Some (record { server = server; entry = entry })) }
 {
     let word = medium[medium::entry_at(capacity as usize, server, entry) + medium::VALUE_PLACE];
     if words::tag_of(word) == 1 {

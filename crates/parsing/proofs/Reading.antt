@@ -4,7 +4,7 @@ use Prim.Native.Nat.{ℕ, suc, ◌+◌, ◌-◌, ◌*◌, ◌^◌, ◌≤◌, �
 use mathlib.Core.Path.{◌≡◌, refl, ap, ◌∙◌}
 use mathlib.Core.Bool.{Bool, true, false, cond}
 use mathlib.Core.List.{List}
-use mathlib.Core.Option.{Option, none, some}
+use Rattle.std.specs.Prelude.{Option, None, Some}
 use mathlib.Core.Logic.{◌≢◌}
 use native.Mathlib.Nat.{pow-le-pow_right}
 use native.Mathlib.Numerals.{add-one}
@@ -105,41 +105,41 @@ unfolding spaced
 after-space s at r e f = rw (eq-eqb (nth s at) 32 e) f
 
 -- what a number's reader answered says what stands there
-pub nothing_read : (o : Option Number) (r : Parsed) → r ≡ parsed_of o → r ≡ parsed.Nothing → o ≡ none
+pub nothing_read : (o : Option Number) (r : Parsed) → r ≡ parsed_of o → r ≡ parsed.Nothing → o ≡ None
 unfolding parsed_of
-nothing_read none r e f = refl
-nothing_read (some x) r e f = cc
+nothing_read None r e f = refl
+nothing_read (Some x) r e f = cc
 
-pub number-there : (o : Option Number) (r : Parsed) → r ≡ parsed_of o → (v n : ℕ) → r ≡ parsed.Number v n → o ≡ some (record { value = v; next = n })
+pub number-there : (o : Option Number) (r : Parsed) → r ≡ parsed_of o → (v n : ℕ) → r ≡ parsed.Number v n → o ≡ Some (record { value = v; next = n })
 unfolding parsed_of
-number-there none r e v n f = cc
-number-there (some x) r e v n f = let p : x.value ≡ v = cc in let q : x.next ≡ n = cc in rw (← p, ← q)
+number-there None r e v n f = cc
+number-there (Some x) r e v n f = let p : x.value ≡ v = cc in let q : x.next ≡ n = cc in rw (← p, ← q)
 
 -- a number after a space is inside the line
-pub inside-line : (s : List ℕ) (at : ℕ) (x : Number) → spaced s at ≡ some x → at < length s
+pub inside-line : (s : List ℕ) (at : ℕ) (x : Number) → spaced s at ≡ Some x → at < length s
 inside-line s at x e = by_bool (ltb at (length s))
     (λ t. ltb-true at (length s) t)
     (λ f.
-    let n : spaced s at ≡ none = nothing_read (spaced s at) parsed.Nothing (past_end s at (ltb-false at (length s) f)) refl in
+    let n : spaced s at ≡ None = nothing_read (spaced s at) parsed.Nothing (past_end s at (ltb-false at (length s) f)) refl in
     let z : ◌≡◌ {A = ℕ} 0 1 = cc in
     omega arith)
 
 -- the line, once its numbers are read
-pub no-first : (s : List ℕ) → spaced s 1 ≡ none → line_of s ≡ line.Unreadable
+pub no-first : (s : List ℕ) → spaced s 1 ≡ None → line_of s ≡ line.Unreadable
 unfolding line_of first
 no-first s e = rw e
 
-module _ (s : List ℕ) (a n : ℕ) (e : spaced s 1 ≡ some (record { value = a; next = n })) where
+module _ (s : List ℕ) (a n : ℕ) (e : spaced s 1 ≡ Some (record { value = a; next = n })) where
   -- nothing may stand after the last number
   pub whole_of : ℕ → ℕ → Line
   whole_of b end = cond (eqb end (length s)) (line_by (nth s 0) a b) line.Unreadable
 
   module _ (two : Bool) (h : two ≡ has_two (nth s 0)) where
-    pub no_second : two ≡ true → spaced s n ≡ none → line_of s ≡ line.Unreadable
+    pub no_second : two ≡ true → spaced s n ≡ None → line_of s ≡ line.Unreadable
     unfolding line_of first last
     no_second t f = rw (e, ← h, t, f)
 
-    pub with_second : two ≡ true → (b end v next : ℕ) → spaced s n ≡ some (record { value = v; next = next }) → b ≡ v → end ≡ next → line_of s ≡ whole_of b end
+    pub with_second : two ≡ true → (b end v next : ℕ) → spaced s n ≡ Some (record { value = v; next = next }) → b ≡ v → end ≡ next → line_of s ≡ whole_of b end
     unfolding line_of first last whole_of
     with_second t b end v next f p q = rw (e, ← h, t, f, p, q)
 

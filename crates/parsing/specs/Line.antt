@@ -1,7 +1,6 @@
 -- Reading a line (document 01, "The program"): a letter and numbers of 1 to 10 digits below 2^32, one space between.
 -- A line is a list of bytes without its LF.
-use Rattle.std.specs.Prelude.{ℕ, zero, suc, ◌+◌, ◌-◌, ◌*◌, Bool, cond, ◌&&◌, ◌||◌, List, length, leb, ltb, eqb}
-use Rattle.std.proofs.Math.Option.{Option, none, some}
+use Rattle.std.specs.Prelude.{ℕ, zero, suc, ◌+◌, ◌-◌, ◌*◌, Bool, cond, ◌&&◌, ◌||◌, List, length, leb, ltb, eqb, Option, None, Some}
 use Rattle.lists.specs.Below.{nth}
 use Rattle.replies.specs.Number.{add_server_number, reweight_number, write_number}
 use Rattle.parsing.specs.declared.Parsed.{Parsed}
@@ -32,16 +31,16 @@ pub record Number : Type 0 where
 unfoldable pub number_at : List ℕ → ℕ → Option Number
 number_at s from =
     let n = digit_run s from 11 in
-    cond (leb 1 n && (leb n 10 && ltb (value_of s from n) 4294967296)) (some (record { value = value_of s from n; next = from + n })) none
+    cond (leb 1 n && (leb n 10 && ltb (value_of s from n) 4294967296)) (Some (record { value = value_of s from n; next = from + n })) None
 
 -- what the running reader answers
 unfoldable pub parsed_of : Option Number → Parsed
-parsed_of none = parsed.Nothing
-parsed_of (some x) = parsed.Number x.value x.next
+parsed_of None = parsed.Nothing
+parsed_of (Some x) = parsed.Number x.value x.next
 
 -- the number after one space
 unfoldable pub spaced : List ℕ → ℕ → Option Number
-spaced s at = cond (eqb (nth s at) 32) (number_at s (at + 1)) none
+spaced s at = cond (eqb (nth s at) 32) (number_at s (at + 1)) None
 
 -- the line of a letter and its numbers: S starts; a call has its subject first, but F has its amount alone
 unfoldable pub line_by : ℕ → ℕ → ℕ → Line
@@ -58,15 +57,15 @@ has_two letter = eqb (number_for letter) reweight_number || eqb (number_for lett
 
 -- the last number of a line, with nothing after it
 unfoldable pub last : List ℕ → (ℕ → Line) → Option Number → Line
-last s f none = line.Unreadable
-last s f (some x) = cond (eqb x.next (length s)) (f x.value) line.Unreadable
+last s f None = line.Unreadable
+last s f (Some x) = cond (eqb x.next (length s)) (f x.value) line.Unreadable
 
 -- the first number; the second, if there is one, begins where it ends
 unfoldable pub first : List ℕ → Option Number → Line
-first s none = line.Unreadable
-first s (some x) =
+first s None = line.Unreadable
+first s (Some x) =
     cond (has_two (nth s 0)) (last s (line_by (nth s 0) x.value) (spaced s x.next))
-    (last s (λ a. line_by (nth s 0) a 0) (some x))
+    (last s (λ a. line_by (nth s 0) a 0) (Some x))
 
 unfoldable pub line_of : List ℕ → Line
 line_of s = first s (spaced s 1)

@@ -4,7 +4,7 @@ use Prim.Native.Nat.{ℕ, zero, suc, ◌+◌, ◌*◌, ◌≤◌, ◌<◌}
 use mathlib.Core.Path.{◌≡◌, refl, sym, ap, ap₂, ◌∙◌, subst}
 use mathlib.Core.Logic.{◌≢◌}
 use mathlib.Core.List.{List, [], ◌∷◌}
-use mathlib.Core.Option.{Option, none, some}
+use Rattle.std.specs.Prelude.{Option, None, Some}
 use native.Mathlib.Numerals.{add-one}
 use native.Mathlib.Omega.{arith}
 use lib.ListN.{length}
@@ -40,8 +40,8 @@ use Rattle.replay.specs.Replay.{appended, calls_below, ledger_reply_to, with_rep
 -- one call more
 appended-after : (S : State) (calls : List Call) (o : Option Call) → after S (appended calls o) ≡ next_by (after S calls) o
 unfolding appended next_by turned after_turns
-appended-after S calls none = refl
-appended-after S calls (some c) = after-calls calls (c ∷ []) S
+appended-after S calls None = refl
+appended-after S calls (Some c) = after-calls calls (c ∷ []) S
 
 after_more : (S : State) (calls : List ℕ) (i : ℕ) → after S (calls_below calls (i + 1)) ≡ next_by (after S (calls_below calls i)) (call_at calls i)
 unfolding calls_below
@@ -70,8 +70,8 @@ module _ (f : ℕ → Reply) (words : List ℕ) where
 module _ (capacity salt : ℕ) (z : first_of (start_rows capacity salt) ≡ 0) (m : List ℕ) (b : (a : ℕ) → a < length m → nth m a ≡ blank) where
   ledger-alike : (calls : List Call) (o : Option Call) → compared (reply_to (after (begin capacity salt (length m)) calls) o) ≡ ledger_reply_to (ledger_after (fresh_ledger capacity salt (length m)) calls) o
   unfolding reply_to ledger_reply_to compared
-  ledger-alike calls none = refl
-  ledger-alike calls (some c) =
+  ledger-alike calls None = refl
+  ledger-alike calls (Some c) =
       let r = run-calls calls (begin capacity salt (length m)) (fresh_ledger capacity salt (length m)) (begin-agrees capacity salt (length m) z) in
       (step _ _ r.agrees c).alike
 

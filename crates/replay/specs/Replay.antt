@@ -1,6 +1,5 @@
 -- What an encoded list of calls answers and leaves. Crate encoding's Encoding.antt says which word is which.
-use Rattle.std.specs.Prelude.{ℕ, zero, suc, ◌<◌, ◌≡◌, List, [], ◌∷◌, ◌++◌, length}
-use Rattle.std.proofs.Math.Option.{Option, none, some}
+use Rattle.std.specs.Prelude.{ℕ, zero, suc, ◌<◌, ◌≡◌, List, [], ◌∷◌, ◌++◌, length, Option, None, Some}
 use Rattle.lists.specs.Below.{nth}
 use Rattle.medium.specs.Word.{blank}
 use Rattle.replies.specs.Refusal.{settle}
@@ -14,8 +13,8 @@ use Rattle.dispatch.specs.ByNumber.{call_at, no_call_number, reply_to}
 
 -- a list with one call more, where it is a call
 unfoldable pub appended : List Call → Option Call → List Call
-appended calls none = calls
-appended calls (some c) = calls ++ (c ∷ [])
+appended calls None = calls
+appended calls (Some c) = calls ++ (c ∷ [])
 
 -- the calls among the first n encoded ones
 unfoldable pub calls_below : List ℕ → ℕ → List Call
@@ -24,8 +23,8 @@ calls_below words (suc n) = appended (calls_below words n) (call_at words n)
 
 -- the ledger's reply to a call, and to what is no call
 unfoldable pub ledger_reply_to : Ledger → Option Call → Compared
-ledger_reply_to L none = told no_call_number 0 0 0
-ledger_reply_to L (some c) = (enter L c).reply
+ledger_reply_to L None = told no_call_number 0 0 0
+ledger_reply_to L (Some c) = (enter L c).reply
 
 -- the words with the first n replies, and the rest as lent
 unfoldable pub with_replies : (ℕ → Reply) → ℕ → List ℕ → List ℕ

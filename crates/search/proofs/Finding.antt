@@ -4,7 +4,7 @@ use Prim.Native.Nat.{ℕ, zero, suc, ◌+◌, ◌-◌, ◌≤◌, ◌<◌}
 use mathlib.Core.Path.{◌≡◌, refl, sym, ap, ◌∙◌}
 use mathlib.Core.Bool.{Bool, true, false, cond}
 use mathlib.Core.List.{List}
-use mathlib.Core.Option.{Option, none, some}
+use Rattle.std.specs.Prelude.{Option, None, Some}
 use native.Mathlib.Numerals.{sub-one}
 use native.Mathlib.Omega.{arith}
 use lib.ListN.{length}
@@ -38,7 +38,7 @@ module _ (capacity used : ℕ) (m : List ℕ) (id k j : ℕ) (l : 0 < j) (u : j 
   pub newest-skipped : r ≡ false → highest (live capacity used m id k) j ≡ highest (live capacity used m id k) (j - 1)
   newest-skipped d = highest-last (live capacity used m id k) j false l (live_here ∙ d)
 
-  pub newest-here : r ≡ true → highest (live capacity used m id k) j ≡ some (j - 1)
+  pub newest-here : r ≡ true → highest (live capacity used m id k) j ≡ Some (j - 1)
   newest-here d = highest-last (live capacity used m id k) j true l (live_here ∙ d)
 
 -- the answer of a search, with this many servers opened before it
@@ -47,15 +47,15 @@ after opened s = answer_at (opened + length s.opened) s.met
 
 -- the same where server k is the last of those: an entry met there, or else the search of the servers below it
 within : ℕ → ℕ → Option ℕ → Search → SearchAnswer
-within opened k none below = after opened below
-within opened k (some j) below = At k j opened
+within opened k None below = after opened below
+within opened k (Some j) below = At k j opened
 
 after-opening : (opened k : ℕ) (o : Option ℕ) (s : Search) → after opened (opening k o s) ≡ within (opened + 1) k o s
 unfolding after within opening answer_at
-after-opening opened k none s =
+after-opening opened k None s =
     let e : opened + suc (length s.opened) ≡ opened + 1 + length s.opened = omega arith in
     ap (λ (n : ℕ). answer_at n s.met) e
-after-opening opened k (some j) s = ap (At k j) (omega arith)
+after-opening opened k (Some j) s = ap (At k j) (omega arith)
 
 module _ (t : Table) (m : List ℕ) (id : ℕ) where
   search-last : (k : ℕ) (b : Bool) → 0 < k → reads t id (k - 1) ≡ b

@@ -4,7 +4,7 @@ use Prim.Native.Nat.{ℕ, zero, suc, ◌≤◌, ◌<◌}
 use mathlib.Core.Path.{◌≡◌, refl, sym, ap, ◌∙◌, subst}
 use mathlib.Core.Bool.{Bool, true, false, cond, ◌&&◌, and-false}
 use mathlib.Core.List.{List, [], ◌∷◌, ◌++◌}
-use mathlib.Core.Option.{Option, none, some}
+use Rattle.std.specs.Prelude.{Option, None, Some}
 use native.Mathlib.Omega.{arith}
 use lib.ListN.{length}
 use lib.Dec.{leb, eqb}
@@ -25,23 +25,23 @@ pub reads_same : (t u : Table) (id k : ℕ) → t.salt ≡ u.salt → read_p t k
 reads_same t u id k s e = readable-cong (read_p t) (read_p u) _ _ id k s e
 
 -- out of the highest number that passes
-pub highest-at : (p : ℕ → Bool) (n k : ℕ) → highest p n ≡ some k → (k < n) × (p k ≡ true)
+pub highest-at : (p : ℕ → Bool) (n k : ℕ) → highest p n ≡ Some k → (k < n) × (p k ≡ true)
 unfolding highest
 highest-at p zero k e = let z : ◌≡◌ {A = ℕ} 0 1 = cc in absurd (omega arith)
 highest-at p (suc n) k e = by_bool (p n)
-    (λ d. let r : some n ≡ some k = rw d at e in let s : n ≡ k = cc in (omega arith, subst (λ (i : ℕ). p i ≡ true) s d))
+    (λ d. let r : Some n ≡ Some k = rw d at e in let s : n ≡ k = cc in (omega arith, subst (λ (i : ℕ). p i ≡ true) s d))
     (λ d. let i = highest-at p n k (rw d at e) in (omega arith, i.1))
 
-highest-none : (p : ℕ → Bool) (n : ℕ) → highest p n ≡ none → (k : ℕ) → k < n → p k ≡ true → ⊥
+highest-none : (p : ℕ → Bool) (n : ℕ) → highest p n ≡ None → (k : ℕ) → k < n → p k ≡ true → ⊥
 unfolding highest
 highest-none p zero e k l q = omega arith
 highest-none p (suc n) e k l q = by_bool (p n)
-    (λ d. let r : some n ≡ none = rw d at e in let z : ◌≡◌ {A = ℕ} 0 1 = cc in omega arith)
+    (λ d. let r : Some n ≡ None = rw d at e in let z : ◌≡◌ {A = ℕ} 0 1 = cc in omega arith)
     (λ d. by_bool (eqb k n)
     (λ c. true-not-false q (ap p (eqb-true k n c) ∙ d))
     (λ c. highest-none p n (rw d at e) k (omega (arith, eqb-false k n c)) q))
 
-highest-some : (p : ℕ → Bool) (n k : ℕ) → highest p n ≡ some k → Highest p n k
+highest-some : (p : ℕ → Bool) (n k : ℕ) → highest p n ≡ Some k → Highest p n k
 unfolding or_zero
 highest-some p n k e = let i = highest-at p n k e in rw e at (highest-is p n k i.0 i.1)
 
@@ -74,22 +74,22 @@ module _ (t : Table) (m : List ℕ) (id : ℕ) where
 
   -- what a search of the servers below n is
   record SearchIs (n : ℕ) (s : Search) : Type 0 where
-    some_met : (p : Place) → s.met ≡ some p → Met (first n) m id p
-    none_met : s.met ≡ none → NoneMet (first n) m id
+    some_met : (p : Place) → s.met ≡ Some p → Met (first n) m id p
+    none_met : s.met ≡ None → NoneMet (first n) m id
     opened : s.opened ≡ downward (from s.met) n
 
   -- the last of suc n servers is skipped, opened in vain, or where the search ends
   pub search-cases : (P : Search → Type 0) (n : ℕ)
       → (reads t id n ≡ false → P (search_below t m id n))
-      → (reads t id n ≡ true → last_live t m id n ≡ none → P (opening n none (search_below t m id n)))
-      → ((j : ℕ) → reads t id n ≡ true → last_live t m id n ≡ some j → P (opening n (some j) (search_below t m id n)))
+      → (reads t id n ≡ true → last_live t m id n ≡ None → P (opening n None (search_below t m id n)))
+      → ((j : ℕ) → reads t id n ≡ true → last_live t m id n ≡ Some j → P (opening n (Some j) (search_below t m id n)))
       → P (search_below t m id (suc n))
   unfolding search_below
   search-cases P n skip on end = by_bool (reads t id n) (λ e. rw e (go e (last_live t m id n) refl)) (λ e. rw e (skip e))
     where
       go : reads t id n ≡ true → (o : Option ℕ) → last_live t m id n ≡ o → P (opening n (last_live t m id n) (search_below t m id n))
-      go e none d = rw d (on e d)
-      go e (some j) d = rw d (end j e d)
+      go e None d = rw d (on e d)
+      go e (Some j) d = rw d (end j e d)
 
   abbrev Live : ℕ → ℕ → Type 0
   Live k j = live t.capacity (used_of t k) m id k j ≡ true
@@ -116,7 +116,7 @@ module _ (t : Table) (m : List ℕ) (id : ℕ) where
   none-higher n h b = record { nowhere = λ k l r j a. b.nowhere k (under n k j h l r a) r j a }
 
   -- the highest live entry of server n
-  met-here : (n j : ℕ) → reads t id n ≡ true → last_live t m id n ≡ some j → Met (first (suc n)) m id (record { server = n; entry = j })
+  met-here : (n j : ℕ) → reads t id n ≡ true → last_live t m id n ≡ Some j → Met (first (suc n)) m id (record { server = n; entry = j })
   unfolding last_live
   met-here n j r e =
       let h = highest-some (live t.capacity (used_of t n) m id n) (used_of t n) j e in
@@ -132,7 +132,7 @@ module _ (t : Table) (m : List ℕ) (id : ℕ) where
         );
       }
 
-  last_none : (n : ℕ) → last_live t m id n ≡ none → Passed n
+  last_none : (n : ℕ) → last_live t m id n ≡ None → Passed n
   unfolding last_live
   last_none n e r j a = highest-none (live t.capacity (used_of t n) m id n) (used_of t n) e j (live-used t.capacity (used_of t n) m id n j a) a
 
@@ -155,10 +155,10 @@ module _ (t : Table) (m : List ℕ) (id : ℕ) where
   low n s i = go s.met refl
     where
       go : (o : Option Place) → s.met ≡ o → leb (lowest o) n ≡ true
-      go none e = le-leb 0 n (omega arith)
-      go (some p) e = le-leb p.server n (omega (arith, (i.some_met p e).below))
+      go None e = le-leb 0 n (omega arith)
+      go (Some p) e = le-leb p.server n (omega (arith, (i.some_met p e).below))
 
-  is-passed : (n : ℕ) (s : Search) → SearchIs n s → reads t id n ≡ true → last_live t m id n ≡ none → SearchIs (suc n) (opening n none s)
+  is-passed : (n : ℕ) (s : Search) → SearchIs n s → reads t id n ≡ true → last_live t m id n ≡ None → SearchIs (suc n) (opening n None s)
   unfolding opening
   is-passed n s i e d =
       let h = last_none n d in
@@ -168,15 +168,15 @@ module _ (t : Table) (m : List ℕ) (id : ℕ) where
         opened = ap (λ (l : List ℕ). n ∷ l) i.opened ∙ sym (from_last s.met n true (and_i _ _ (low n s i) e));
       }
 
-  is-ended : (n j : ℕ) (s : Search) → reads t id n ≡ true → last_live t m id n ≡ some j → SearchIs (suc n) (opening n (some j) s)
+  is-ended : (n j : ℕ) (s : Search) → reads t id n ≡ true → last_live t m id n ≡ Some j → SearchIs (suc n) (opening n (Some j) s)
   unfolding opening lowest
   is-ended n j s e d =
       let p : Place = record { server = n; entry = j } in
       record {
         some_met = λ q f. let r : p ≡ q = cc in subst (Met (first (suc n)) m id) r (met-here n j e d);
         none_met = λ f. let z : ◌≡◌ {A = ℕ} 0 1 = cc in absurd (omega arith);
-        opened = sym (from_last (some p) n true (and_i _ _ (le-leb n n (omega arith)) e)
-            ∙ ap (λ (l : List ℕ). n ∷ l) (downward-none (from (some p)) n (λ k l. rw (lt-leb n k l))));
+        opened = sym (from_last (Some p) n true (and_i _ _ (le-leb n n (omega arith)) e)
+            ∙ ap (λ (l : List ℕ). n ∷ l) (downward-none (from (Some p)) n (λ k l. rw (lt-leb n k l))));
       }
 
   search_is : (n : ℕ) → SearchIs n (search_below t m id n)
@@ -194,11 +194,11 @@ module _ (t : Table) (m : List ℕ) (id : ℕ) where
   pub search-low : (n : ℕ) → leb (lowest (search_below t m id n).met) n ≡ true
   search-low n = low n _ (search_is n)
 
-  pub met_some : (p : Place) → (search_for t m id).met ≡ some p → Met t m id p
+  pub met_some : (p : Place) → (search_for t m id).met ≡ Some p → Met t m id p
   unfolding search_for
   met_some p e = (search_is t.count).some_met p e
 
-  pub met-none : (search_for t m id).met ≡ none → NoneMet t m id
+  pub met-none : (search_for t m id).met ≡ None → NoneMet t m id
   unfolding search_for
   met-none e = (search_is t.count).none_met e
 

@@ -1,6 +1,5 @@
 -- Which servers a lookup opens (the second demand), and what it means that the others have no bearing on its reply.
-use Rattle.std.specs.Prelude.{ℕ, suc, ◌≤◌, ◌<◌, Bool, true, ◌&&◌, ◌≡◌, List, length, leb}
-use Rattle.std.proofs.Math.Option.{Option, none, some}
+use Rattle.std.specs.Prelude.{ℕ, suc, ◌≤◌, ◌<◌, Bool, true, ◌&&◌, ◌≡◌, List, length, leb, Option, None, Some}
 use Rattle.lists.specs.Below.{nth, downward, count_below}
 use Rattle.medium.specs.Entry.{server_at, live}
 use Rattle.table.specs.declared.Table.{Table}
@@ -23,8 +22,8 @@ pub record NoneMet (t : Table) (m : List ℕ) (id : ℕ) : Type 0 where
 
 -- the lowest server that a search which met this may open
 unfoldable pub lowest : Option Place → ℕ
-lowest none = 0
-lowest (some p) = p.server
+lowest None = 0
+lowest (Some p) = p.server
 
 -- a lookup opens server k: it is readable, and not below the server where the search ends
 unfoldable pub opens : Table → List ℕ → ℕ → ℕ → Bool

@@ -1,6 +1,5 @@
 -- The search of a lookup: which servers it opens, in order, and the entry that it meets.
-use Rattle.std.specs.Prelude.{ℕ, zero, suc, length, cond, List, [], ◌∷◌}
-use Rattle.std.proofs.Math.Option.{Option, none, some}
+use Rattle.std.specs.Prelude.{ℕ, zero, suc, length, cond, List, [], ◌∷◌, Option, None, Some}
 use Rattle.lists.specs.Below.{highest}
 use Rattle.medium.specs.Entry.{live}
 use Rattle.table.specs.declared.Table.{Table}
@@ -23,12 +22,12 @@ last_live t m id k = highest (live t.capacity (used_of t k) m id k) (used_of t k
 
 -- server k is opened: the search ends there at a live entry, and goes on below it if there is none
 unfoldable pub opening : ℕ → Option ℕ → Search → Search
-opening k (some j) below = record { opened = k ∷ []; met = some (record { server = k; entry = j }) }
-opening k none below = record { opened = k ∷ below.opened; met = below.met }
+opening k (Some j) below = record { opened = k ∷ []; met = Some (record { server = k; entry = j }) }
+opening k None below = record { opened = k ∷ below.opened; met = below.met }
 
 -- the readable servers below n, from the highest down to the first with a live entry
 unfoldable pub search_below : Table → List ℕ → ℕ → ℕ → Search
-search_below t m id zero = record { opened = []; met = none }
+search_below t m id zero = record { opened = []; met = None }
 search_below t m id (suc k) = cond (reads t id k) (opening k (last_live t m id k) (search_below t m id k)) (search_below t m id k)
 
 unfoldable pub search_for : Table → List ℕ → ℕ → Search
@@ -36,8 +35,8 @@ search_for t m id = search_below t m id t.count
 
 -- what the running search answers: the entry met, if any, and how many servers it opened
 unfoldable pub answer_at : ℕ → Option Place → SearchAnswer
-answer_at opened none = Nowhere opened
-answer_at opened (some p) = At p.server p.entry opened
+answer_at opened None = Nowhere opened
+answer_at opened (Some p) = At p.server p.entry opened
 
 unfoldable pub answer_of : Search → SearchAnswer
 answer_of s = answer_at (length s.opened) s.met

@@ -4,7 +4,7 @@ use Prim.Native.Nat.{ℕ, zero, suc, ◌+◌, ◌-◌, ◌*◌, ◌≤◌, ◌<�
 use mathlib.Core.Path.{◌≡◌, refl, sym, ap, ◌∙◌}
 use mathlib.Core.Bool.{false, cond}
 use mathlib.Core.List.{List, [], ◌∷◌, ◌++◌}
-use mathlib.Core.Option.{Option, none, some}
+use Rattle.std.specs.Prelude.{Option, None, Some}
 use native.Mathlib.Omega.{arith}
 use lib.ListN.{length, take, drop, length-append, length-drop, drop_of_length-le}
 use lib.Seq.{sets, drop-cons, drop-drop}
@@ -52,8 +52,8 @@ answered-short number r = by_bool (eqb number add_server_number)
 
 call-short : (s : Sheet) (o : Option Table) (number subject amount : ℕ) → length (call_run s o number subject amount).bytes ≤ 35
 unfolding call_run
-call-short s none number subject amount = question-short
-call-short s (some t) number subject amount = answered-short number _
+call-short s None number subject amount = question-short
+call-short s (Some t) number subject amount = answered-short number _
 
 line-short : (s : Sheet) (L : Line) → length (line_run s L).bytes ≤ 35
 unfolding line_run start_run
@@ -112,7 +112,7 @@ abbrev pub rest : List ℕ → InUse → List ℕ → ℕ → Done
 rest input u m from = run (sheet_of u m) (lines_of (drop from input))
 
 abbrev pub whole : List ℕ → List ℕ → Done
-whole input m = run (record { table = none; medium = m }) (lines_of input)
+whole input m = run (record { table = None; medium = m }) (lines_of input)
 
 -- what is left, put after what is printed, makes up the whole
 pub record Left (input m₀ out₀ : List ℕ) (u : InUse) (m out : List ℕ) (from at : ℕ) : Type 0 where
@@ -198,7 +198,7 @@ output-short : (input m : List ℕ) → length (output_of input m).bytes ≤ out
 unfolding output_of output_room
 output-short input m = by_bool (ltb 65536 (length input))
     (λ e. rw e (omega arith))
-    (λ e. rw e (omega (arith, run_short (record { table = none; medium = m }) (lines_of input), lines-few input)))
+    (λ e. rw e (omega (arith, run_short (record { table = None; medium = m }) (lines_of input), lines-few input)))
 
 -- so what a run answers lies in its buffer
 pub output-fits : (input m : List ℕ) (r n : ℕ) → r ≡ length (output_of input m).bytes → output_room (length input) ≤ n → r ≤ n

@@ -1,6 +1,5 @@
 -- A whole sheet: input bytes to output bytes over a lent medium.
-use Rattle.std.specs.Prelude.{ℕ, ◌*◌, cond, List, [], ◌∷◌, ◌++◌, length, ltb, eqb}
-use Rattle.std.proofs.Math.Option.{none}
+use Rattle.std.specs.Prelude.{ℕ, ◌*◌, cond, List, [], ◌∷◌, ◌++◌, length, ltb, eqb, None}
 use Rattle.parsing.specs.Line.{line_of}
 use Rattle.printing.specs.Print.{longest_line, question}
 use Rattle.sheet_start.specs.SheetStart.{Sheet, Done}
@@ -28,7 +27,7 @@ max_input = 65536
 
 unfoldable pub output_of : List ℕ → List ℕ → Done
 output_of input m =
-    let s : Sheet = record { table = none; medium = m } in
+    let s : Sheet = record { table = None; medium = m } in
     cond (ltb max_input (length input)) (record { bytes = question; sheet = s }) (run s (lines_of input))
 
 -- how many bytes of output an input of n bytes needs at most

@@ -4,7 +4,7 @@ use Prim.Native.Nat.{ℕ, ◌+◌}
 use mathlib.Core.Path.{◌≡◌, ap}
 use mathlib.Core.Bool.{true, false}
 use mathlib.Core.List.{List}
-use mathlib.Core.Option.{some}
+use Rattle.std.specs.Prelude.{Some}
 use lib.ListN.{length}
 use lib.Seq.{sets}
 use Rattle.tenants.specs.Tenant.{tenant_of}
@@ -35,6 +35,6 @@ module _ (u : InUse) (m : List ℕ) (number subject amount : ℕ) where
       → (let S : State = record { table = u.table; medium = m } in r ≡ reply_to S (call_of number tenant subject amount))
       → (let S : State = record { table = u.table; medium = m } in t ≡ (next_by S (call_of number tenant subject amount)).table)
       → (let S : State = record { table = u.table; medium = m } in m' ≡ (next_by S (call_of number tenant subject amount)).medium)
-      → call_run (sheet_of u m) (sheet_of u m).table number subject amount ≡ record { bytes = answered number r; sheet = record { table = some t; medium = m' } }
+      → call_run (sheet_of u m) (sheet_of u m).table number subject amount ≡ record { bytes = answered number r; sheet = record { table = Some t; medium = m' } }
   unfolding call_run sheet_of
   call-run e tenant o r t m' er et em = rw (e, er, et, em, o)

@@ -4,7 +4,7 @@ use Prim.Native.Nat.{ℕ, ◌+◌}
 use mathlib.Core.Path.{◌≡◌, refl, sym, ap, ◌∙◌}
 use mathlib.Core.Logic.{◌≢◌}
 use mathlib.Core.List.{List}
-use mathlib.Core.Option.{some}
+use Rattle.std.specs.Prelude.{Some}
 use native.Mathlib.Numerals.{add-one}
 use native.Mathlib.Omega.{arith}
 use lib.ListN.{length, set, replicate}
@@ -61,6 +61,6 @@ module _ (u : InUse) (m : List ℕ) (capacity : ℕ) (r x : Reply) (e : r ≡ x)
   start-refused n = rw (bytes, settle-no (start_rows capacity sheet_salt) _ _ (λ z. n (number ∙ z)))
 
   pub start-accepted : r.refusal ≡ 0 → (t : Table) (m' : List ℕ) → t ≡ start_table capacity sheet_salt → m' ≡ replicate (length m) blank
-      → start_run (sheet_of u m) capacity ≡ record { bytes = printed start_letter r.refusal 0 0; sheet = record { table = some t; medium = m' } }
+      → start_run (sheet_of u m) capacity ≡ record { bytes = printed start_letter r.refusal 0 0; sheet = record { table = Some t; medium = m' } }
   unfolding start_run sheet_of
   start-accepted z t m' et em = rw (bytes, settle-yes (start_rows capacity sheet_salt) _ _ (sym number ∙ z), et, em)

@@ -1,7 +1,6 @@
 -- A sheet, and a start on it (document 01, "The program", and document 02, item 4): what it prints, and the table in use and the
 -- medium after it.
-use Rattle.std.specs.Prelude.{ℕ, cond, List, length, replicate}
-use Rattle.std.proofs.Math.Option.{Option, none, some}
+use Rattle.std.specs.Prelude.{ℕ, cond, List, length, replicate, Option, None, Some}
 use Rattle.medium.specs.Word.{blank}
 use Rattle.table.specs.declared.Table.{Table}
 use Rattle.replies.specs.Refusal.{settle}
@@ -18,7 +17,7 @@ pub record Sheet : Type 0 where
 
 -- the sheet that running code holds
 unfoldable pub sheet_of : InUse → List ℕ → Sheet
-sheet_of u m = record { table = cond u.started (some u.table) none; medium = m }
+sheet_of u m = record { table = cond u.started (Some u.table) None; medium = m }
 
 -- what a line prints, and the sheet after it
 pub record Done : Type 0 where
@@ -33,5 +32,5 @@ sheet_salt = 0
 unfoldable pub start_run : Sheet → ℕ → Done
 start_run s capacity = record {
   bytes = printed start_letter (start_reply capacity sheet_salt).refusal 0 0;
-  sheet = settle (start_rows capacity sheet_salt) (record { table = some (start_table capacity sheet_salt); medium = replicate (length s.medium) blank }) s;
+  sheet = settle (start_rows capacity sheet_salt) (record { table = Some (start_table capacity sheet_salt); medium = replicate (length s.medium) blank }) s;
 }

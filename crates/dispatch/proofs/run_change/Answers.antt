@@ -1,7 +1,7 @@
 -- `dispatch::run_change` meets its contract: a return for call 1, for call 2, and for what is no call.
 use Prim.Native.Nat.{ℕ}
 use mathlib.Core.Path.{◌≡◌, refl, ◌∙◌}
-use mathlib.Core.Option.{none}
+use Rattle.std.specs.Prelude.{None}
 use native.Mathlib.Omega.{arith}
 use Rattle.history.specs.Machine.{reply, next}
 use Rattle.dispatch.specs.ByNumber.{call_of, reply_to, next_by}
@@ -43,7 +43,7 @@ unfolding reply_to next_by
 returns-in_default-clause-reply c =
     let n = c.args.number in
     let few = c.requires in
-    let e : ((tenant : ℕ) → call_of n tenant c.args.subject c.args.amount ≡ none) = λ tenant.
+    let e : ((tenant : ℕ) → call_of n tenant c.args.subject c.args.amount ≡ None) = λ tenant.
     no_call n tenant c.args.subject c.args.amount (omega arith) (omega arith) (λ e. omega (arith, few)) (λ e. omega (arith, few)) (λ e. omega (arith, few)) in λ tenant. rw (e tenant) c.no_call.ensures
 
 pub returns-in_default-clause-table : goal.returns-in_default-clause-table
@@ -51,7 +51,7 @@ unfolding reply_to next_by
 returns-in_default-clause-table c =
     let n = c.args.number in
     let few = c.requires in
-    let e : ((tenant : ℕ) → call_of n tenant c.args.subject c.args.amount ≡ none) = λ tenant.
+    let e : ((tenant : ℕ) → call_of n tenant c.args.subject c.args.amount ≡ None) = λ tenant.
     no_call n tenant c.args.subject c.args.amount (omega arith) (omega arith) (λ e. omega (arith, few)) (λ e. omega (arith, few)) (λ e. omega (arith, few)) in λ tenant. rw (e tenant)
 
 pub returns-in_default-clause-medium : goal.returns-in_default-clause-medium
@@ -59,5 +59,5 @@ unfolding reply_to next_by
 returns-in_default-clause-medium c =
     let n = c.args.number in
     let few = c.requires in
-    let e : ((tenant : ℕ) → call_of n tenant c.args.subject c.args.amount ≡ none) = λ tenant.
+    let e : ((tenant : ℕ) → call_of n tenant c.args.subject c.args.amount ≡ None) = λ tenant.
     no_call n tenant c.args.subject c.args.amount (omega arith) (omega arith) (λ e. omega (arith, few)) (λ e. omega (arith, few)) (λ e. omega (arith, few)) in λ tenant. rw (e tenant)

@@ -1,7 +1,7 @@
 -- `line_run::run_line` meets its contract: the numbers are read, one or two, or the line gets its question mark.
 use mathlib.Core.Path.{◌≡◌, sym, ap, ◌∙◌}
 use mathlib.Core.Logic.{⊎_elim}
-use mathlib.Core.Option.{some}
+use Rattle.std.specs.Prelude.{Some}
 use borrow.Author.Rules.{rules}
 use Rattle.parsing.specs.Line.{spaced, line_of}
 use Rattle.parsing.proofs.Reading.{nothing_read, number-there, inside-line, no-first, no_second, whole_of, with_second, without-second, more-after, none_after}
@@ -27,28 +27,28 @@ returns-in_default-clause-sheet c =
 
 pub bounds-line-0 : goal.bounds-line-0
 bounds-line-0 c =
-    let there : spaced c.args.line.now 1 ≡ some (record { value = c.in-Number.first; next = c.in-Number.after_first }) = number-there _ _ c.number_after-one.ensures _ _ c.in-Number.is in
+    let there : spaced c.args.line.now 1 ≡ Some (record { value = c.in-Number.first; next = c.in-Number.after_first }) = number-there _ _ c.number_after-one.ensures _ _ c.in-Number.is in
     let i = inside-line c.args.line.now 1 _ (there) in
     search (rules, i)
 
 pub returns-in_default-two-clause-next : goal.returns-in_default-two-clause-next
 returns-in_default-two-clause-next c =
-    let there : spaced c.args.line.now 1 ≡ some (record { value = c.in-Number.first; next = c.in-Number.after_first }) = number-there _ _ c.number_after-one.ensures _ _ c.in-Number.is in
+    let there : spaced c.args.line.now 1 ≡ Some (record { value = c.in-Number.first; next = c.in-Number.after_first }) = number-there _ _ c.number_after-one.ensures _ _ c.in-Number.is in
     let e = no_second c.args.line.now _ _ (there) _ c.has_two.ensures c.if-has_two.true (nothing_read _ _ c.number_after-two.ensures c.in_default-two.is) in (asked _ _ _ _ _ _ _ _ (not-read _ _ e) (c.ask-in_default-two.ensures.next, (c.ask-in_default-two.ensures.bytes, c.ask-in_default-two.ensures.kept))).0
 
 pub returns-in_default-two-clause-bytes : goal.returns-in_default-two-clause-bytes
 returns-in_default-two-clause-bytes c =
-    let there : spaced c.args.line.now 1 ≡ some (record { value = c.in-Number.first; next = c.in-Number.after_first }) = number-there _ _ c.number_after-one.ensures _ _ c.in-Number.is in
+    let there : spaced c.args.line.now 1 ≡ Some (record { value = c.in-Number.first; next = c.in-Number.after_first }) = number-there _ _ c.number_after-one.ensures _ _ c.in-Number.is in
     let e = no_second c.args.line.now _ _ (there) _ c.has_two.ensures c.if-has_two.true (nothing_read _ _ c.number_after-two.ensures c.in_default-two.is) in (asked _ _ _ _ _ _ _ _ (not-read _ _ e) (c.ask-in_default-two.ensures.next, (c.ask-in_default-two.ensures.bytes, c.ask-in_default-two.ensures.kept))).1.0
 
 pub returns-in_default-two-clause-sheet : goal.returns-in_default-two-clause-sheet
 returns-in_default-two-clause-sheet c =
-    let there : spaced c.args.line.now 1 ≡ some (record { value = c.in-Number.first; next = c.in-Number.after_first }) = number-there _ _ c.number_after-one.ensures _ _ c.in-Number.is in
+    let there : spaced c.args.line.now 1 ≡ Some (record { value = c.in-Number.first; next = c.in-Number.after_first }) = number-there _ _ c.number_after-one.ensures _ _ c.in-Number.is in
     let e = no_second c.args.line.now _ _ (there) _ c.has_two.ensures c.if-has_two.true (nothing_read _ _ c.number_after-two.ensures c.in_default-two.is) in (asked _ _ _ _ _ _ _ _ (not-read _ _ e) (c.ask-in_default-two.ensures.next, (c.ask-in_default-two.ensures.bytes, c.ask-in_default-two.ensures.kept))).1.1
 
 pub returns-then-end-line-clause-next : goal.returns-then-end-line-clause-next
 returns-then-end-line-clause-next c =
-    let there : spaced c.args.line.now 1 ≡ some (record { value = c.in-Number.first; next = c.in-Number.after_first }) = number-there _ _ c.number_after-one.ensures _ _ c.in-Number.is in
+    let there : spaced c.args.line.now 1 ≡ Some (record { value = c.in-Number.first; next = c.in-Number.after_first }) = number-there _ _ c.number_after-one.ensures _ _ c.in-Number.is in
     let whole : line_of c.args.line.now ≡ whole_of c.args.line.now _ _ (there) c.if-has_two.second c.if-has_two.end = let l = c.args.line.now in
     (elim c.if-has_two.branch [
       | then-has_two+in-Number-two w ↦ with_second l _ _ (there) _ c.has_two.ensures w.if-has_two.true _ _ _ _ (number-there _ _ w.number_after-two.ensures _ _ w.in-Number-two.is) w.second-is w.end-is
@@ -57,7 +57,7 @@ returns-then-end-line-clause-next c =
 
 pub returns-then-end-line-clause-bytes : goal.returns-then-end-line-clause-bytes
 returns-then-end-line-clause-bytes c =
-    let there : spaced c.args.line.now 1 ≡ some (record { value = c.in-Number.first; next = c.in-Number.after_first }) = number-there _ _ c.number_after-one.ensures _ _ c.in-Number.is in
+    let there : spaced c.args.line.now 1 ≡ Some (record { value = c.in-Number.first; next = c.in-Number.after_first }) = number-there _ _ c.number_after-one.ensures _ _ c.in-Number.is in
     let whole : line_of c.args.line.now ≡ whole_of c.args.line.now _ _ (there) c.if-has_two.second c.if-has_two.end = let l = c.args.line.now in
     (elim c.if-has_two.branch [
       | then-has_two+in-Number-two w ↦ with_second l _ _ (there) _ c.has_two.ensures w.if-has_two.true _ _ _ _ (number-there _ _ w.number_after-two.ensures _ _ w.in-Number-two.is) w.second-is w.end-is
@@ -66,7 +66,7 @@ returns-then-end-line-clause-bytes c =
 
 pub returns-then-end-line-clause-sheet : goal.returns-then-end-line-clause-sheet
 returns-then-end-line-clause-sheet c =
-    let there : spaced c.args.line.now 1 ≡ some (record { value = c.in-Number.first; next = c.in-Number.after_first }) = number-there _ _ c.number_after-one.ensures _ _ c.in-Number.is in
+    let there : spaced c.args.line.now 1 ≡ Some (record { value = c.in-Number.first; next = c.in-Number.after_first }) = number-there _ _ c.number_after-one.ensures _ _ c.in-Number.is in
     let whole : line_of c.args.line.now ≡ whole_of c.args.line.now _ _ (there) c.if-has_two.second c.if-has_two.end = let l = c.args.line.now in
     (elim c.if-has_two.branch [
       | then-has_two+in-Number-two w ↦ with_second l _ _ (there) _ c.has_two.ensures w.if-has_two.true _ _ _ _ (number-there _ _ w.number_after-two.ensures _ _ w.in-Number-two.is) w.second-is w.end-is
@@ -75,7 +75,7 @@ returns-then-end-line-clause-sheet c =
 
 pub returns-clause-next : goal.returns-clause-next
 returns-clause-next c =
-    let there : spaced c.args.line.now 1 ≡ some (record { value = c.in-Number.first; next = c.in-Number.after_first }) = number-there _ _ c.number_after-one.ensures _ _ c.in-Number.is in
+    let there : spaced c.args.line.now 1 ≡ Some (record { value = c.in-Number.first; next = c.in-Number.after_first }) = number-there _ _ c.number_after-one.ensures _ _ c.in-Number.is in
     let whole : line_of c.args.line.now ≡ whole_of c.args.line.now _ _ (there) c.if-has_two.second c.if-has_two.end = let l = c.args.line.now in
     (elim c.if-has_two.branch [
       | then-has_two+in-Number-two w ↦ with_second l _ _ (there) _ c.has_two.ensures w.if-has_two.true _ _ _ _ (number-there _ _ w.number_after-two.ensures _ _ w.in-Number-two.is) w.second-is w.end-is
@@ -85,7 +85,7 @@ returns-clause-next c =
 
 pub returns-clause-bytes : goal.returns-clause-bytes
 returns-clause-bytes c =
-    let there : spaced c.args.line.now 1 ≡ some (record { value = c.in-Number.first; next = c.in-Number.after_first }) = number-there _ _ c.number_after-one.ensures _ _ c.in-Number.is in
+    let there : spaced c.args.line.now 1 ≡ Some (record { value = c.in-Number.first; next = c.in-Number.after_first }) = number-there _ _ c.number_after-one.ensures _ _ c.in-Number.is in
     let whole : line_of c.args.line.now ≡ whole_of c.args.line.now _ _ (there) c.if-has_two.second c.if-has_two.end = let l = c.args.line.now in
     (elim c.if-has_two.branch [
       | then-has_two+in-Number-two w ↦ with_second l _ _ (there) _ c.has_two.ensures w.if-has_two.true _ _ _ _ (number-there _ _ w.number_after-two.ensures _ _ w.in-Number-two.is) w.second-is w.end-is
@@ -95,7 +95,7 @@ returns-clause-bytes c =
 
 pub returns-clause-sheet : goal.returns-clause-sheet
 returns-clause-sheet c =
-    let there : spaced c.args.line.now 1 ≡ some (record { value = c.in-Number.first; next = c.in-Number.after_first }) = number-there _ _ c.number_after-one.ensures _ _ c.in-Number.is in
+    let there : spaced c.args.line.now 1 ≡ Some (record { value = c.in-Number.first; next = c.in-Number.after_first }) = number-there _ _ c.number_after-one.ensures _ _ c.in-Number.is in
     let whole : line_of c.args.line.now ≡ whole_of c.args.line.now _ _ (there) c.if-has_two.second c.if-has_two.end = let l = c.args.line.now in
     (elim c.if-has_two.branch [
       | then-has_two+in-Number-two w ↦ with_second l _ _ (there) _ c.has_two.ensures w.if-has_two.true _ _ _ _ (number-there _ _ w.number_after-two.ensures _ _ w.in-Number-two.is) w.second-is w.end-is
