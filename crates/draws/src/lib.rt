@@ -3,41 +3,51 @@
 
 mod constants;
 
-ghost use Rattle.std.specs.Prelude.{◌≡◌, ◌<◌, true, length};
+ghost use Rattle.std.specs.Prelude.{◌≡◌, ◌<◌, true};
 ghost use Rattle.limits.specs.Limits.{max_servers};
 ghost use Rattle.draws.specs.Draw.{step_of, are_steps, seed_of, round_of, draw_of};
 
 use constants::STEPS;
 use limits::MAX_SERVERS;
 
-// The steps of all servers, a table of constants. The language has no read-only data: who names the table writes it out whole. So
-// who draws is lent it, and it is written once for a call or a list of calls and not for each draw. Its length is said apart, for
-// who lends it as a slice.
-pub fn steps() -> [u32; MAX_SERVERS]
-    ensures rule { are_steps result ≡ true }
-    ensures length { max_servers ≡ length result }
-{
-    STEPS
+// The steps of all servers, a table of constants that obeys the rule. The language has no read-only data: who names the constants
+// writes them out whole. So who draws is lent the table, and it is written once for a call or a list of calls and not for each draw.
+#[derive(Drop)]
+pub struct Steps {
+    table: [u32; MAX_SERVERS],
+    ghost rule: { are_steps table ≡ true },
 }
 
-// The step of a server, from the table. There are at most 256 servers.
-pub fn step(steps: &[u32], server: usize) -> u32
-    requires steps_value { are_steps steps.now ≡ true }
-    requires server_lt_max_servers { server < max_servers }
-    ensures { result ≡ step_of server }
-{
-    steps[server]
-}
+impl Steps {
+    // The table of constants.
+    pub fn new() -> Self {
+        Steps { table: STEPS }
+    }
 
-// The seed of an id on a server under a salt. It is never 0.
-pub fn seed(steps: &[u32], salt: u32, id: u32, server: usize) -> u32
-    requires steps_value { are_steps steps.now ≡ true }
-    requires server_lt_max_servers { server < max_servers }
-    ensures { result ≡ seed_of salt id server }
-{
-    let salted = std::num::wrapping_add_u32(id, salt);
-    let s = std::num::wrapping_add_u32(salted, step(steps, server));
-    if s == 0 { 1 } else { s }
+    // The step of a server. There are at most 256 servers.
+    pub fn step(&self, server: usize) -> u32
+        requires { server < max_servers }
+        ensures { result ≡ step_of server }
+    {
+        self.table[server]
+    }
+
+    // The seed of an id on a server under a salt. It is never 0.
+    pub fn seed(&self, salt: u32, id: u32, server: usize) -> u32
+        requires { server < max_servers }
+        ensures { result ≡ seed_of salt id server }
+    {
+        let s = id.wrapping_add(salt).wrapping_add(self.step(server));
+        if s == 0 { 1 } else { s }
+    }
+
+    // The draw of an id on a server under a salt.
+    pub fn draw(&self, salt: u32, id: u32, server: usize) -> u32
+        requires { server < max_servers }
+        ensures { result ≡ draw_of salt id server }
+    {
+        round(round(round(self.seed(salt, id, server))))
+    }
 }
 
 // One round of xorshift.
@@ -47,13 +57,4 @@ pub fn round(s: u32) -> u32
     let a = s ^ (s << 13);
     let b = a ^ (a >> 17);
     b ^ (b << 5)
-}
-
-// The draw of an id on a server under a salt.
-pub fn draw(steps: &[u32], salt: u32, id: u32, server: usize) -> u32
-    requires steps_value { are_steps steps.now ≡ true }
-    requires server_lt_max_servers { server < max_servers }
-    ensures { result ≡ draw_of salt id server }
-{
-    round(round(round(seed(steps, salt, id, server))))
 }
