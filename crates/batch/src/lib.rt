@@ -7,6 +7,7 @@ ghost use Rattle.table.specs.Parts.{table_of, Whole};
 ghost use Rattle.batch_answer.specs.Answer.{refused_batch};
 ghost use Rattle.batch.specs.Batch.{long_number, batch_reply, batch_table};
 
+use draws::Steps;
 use batch_answer::Batch;
 use limits::MAX_IDS;
 use placement::Fraction;
@@ -50,7 +51,7 @@ pub fn lookup_batch_in<'a>(
     }
     let number = replies::check_number(checks::ready(shape, columns, medium, false, false));
     let servers = if number == 0 { shape.count } else { 0 };
-    let steps = draws::steps();
+    let steps = Steps::new();
     let mut parts = batch_begin::begin(number, tenant, ids);
     let mut mounts: usize = 0;
     let mut k = servers;

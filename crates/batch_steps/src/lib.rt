@@ -4,10 +4,10 @@
 ghost use Rattle.std.specs.Prelude.{◌≡◌, true, ℕ, ◌≤◌, ◌<◌, length};
 ghost use Rattle.limits.specs.Limits.{max_servers, max_ids};
 ghost use Rattle.lists.specs.Below.{nth, highest};
-ghost use Rattle.draws.specs.Draw.{are_steps};
 ghost use Rattle.medium.specs.Entry.{live, Inside};
 ghost use Rattle.batch_steps.specs.Steps.{newest_by, stepped, stepped_all};
 
+use draws::Steps;
 use batch_begin::Parts;
 use placement::Fraction;
 use table::Shape;
@@ -48,7 +48,7 @@ fn newest_on(capacity: u32, used: u32, medium: &[u32], id: u32, server: usize) -
 fn step(
     progress: Progress,
     read: Fraction,
-    steps: &[u32],
+    steps: &Steps,
     shape: Shape,
     used: u32,
     medium: &[u32],
@@ -58,7 +58,6 @@ fn step(
     requires inside { Inside shape.capacity server medium.now }
     requires used_le_capacity { used ≤ shape.capacity }
     requires opened_le_max_servers { progress.opened ≤ max_servers }
-    requires steps_value { are_steps steps.now ≡ true }
     ensures { result ≡ stepped read shape used medium.now id server progress }
 {
     if progress.refusal != 8 {
@@ -93,7 +92,7 @@ fn step(
 pub fn step_all(
     parts: Parts,
     read: Fraction,
-    steps: &[u32],
+    steps: &Steps,
     shape: Shape,
     used: u32,
     medium: &[u32],
@@ -104,7 +103,6 @@ pub fn step_all(
     requires used_le_capacity { used ≤ shape.capacity }
     requires ids_len_bound { length ids.now ≤ max_ids }
     requires by_index { (i : ℕ) → i < length ids.now → nth parts.opened i ≤ max_servers }
-    requires steps_value { are_steps steps.now ≡ true }
     ensures { result ≡ stepped_all read shape used medium.now ids.now server parts }
 {
     let mut next = parts;

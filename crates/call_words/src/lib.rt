@@ -4,13 +4,13 @@
 ghost use Rattle.std.specs.Prelude.{◌≡◌, true, ◌≢◌, ◌<◌, ◌≤◌, length};
 ghost use Rattle.limits.specs.Limits.{max_servers, max_capacity};
 ghost use Rattle.lists.specs.Below.{nth};
-ghost use Rattle.draws.specs.Draw.{are_steps};
 ghost use Rattle.table_words.specs.Words.{used_offset, table_length, column_from, table_from, with_table};
 ghost use Rattle.upkeep.specs.Upkeep.{with_opened};
 ghost use Rattle.replies.specs.Number.{add_server_number, reweight_number, write_number};
 ghost use Rattle.dispatch.specs.ByNumber.{call_of, reply_to, next_by, used_after};
 ghost use Rattle.call_words.specs.CallWords.{lent, after_call, with_column};
 
+use draws::Steps;
 use encoding::{
     AMOUNT_OFFSET, CALL_LENGTH, NUMBER_OFFSET, REPLY_LENGTH, SUBJECT_OFFSET, TENANT_OFFSET,
 };
@@ -20,7 +20,7 @@ use table_words::{COUNTERS_OFFSET, NUMERATORS_OFFSET, TABLE_LENGTH, USED_OFFSET}
 // Runs a call but add_server and reweight. `count` and `count_opened` then make the table after it.
 fn run_on(
     words: &[u32],
-    steps: &[u32],
+    steps: &Steps,
     medium: &mut [u32],
     number: u32,
     tenant: u32,
@@ -28,7 +28,6 @@ fn run_on(
     amount: u32,
 ) -> Reply
     requires table_length_in_bounds { table_length ≤ length words.now }
-    requires steps_value { are_steps steps.now ≡ true }
     requires number_nonzero { (number ≢ add_server_number) × (number ≢ reweight_number) }
     ensures reply { result ≡ reply_to (lent words.now medium.old) (call_of number tenant subject amount) }
     ensures medium { medium.new ≡ (next_by (lent words.now medium.old) (call_of number tenant subject amount)).medium }
@@ -67,10 +66,9 @@ pub fn run(
     amount: u32,
     table: &mut [u32],
     medium: &mut [u32],
-    steps: &[u32],
+    steps: &Steps,
 ) -> Reply
     requires table_length_in_bounds { table_length ≤ length table.old }
-    requires steps_value { are_steps steps.now ≡ true }
     ensures reply { result ≡ reply_to (lent table.old medium.old) (call_of number tenant subject amount) }
     ensures table { table.new
         ≡ with_table table.old (next_by (lent table.old medium.old) (call_of number tenant subject amount)).table }
@@ -109,7 +107,7 @@ pub fn call(table: &mut [u32], medium: &mut [u32], call: &[u32], reply: &mut [u3
     if reply.len() < REPLY_LENGTH {
         return encoding::TOO_SHORT;
     }
-    let steps = draws::steps();
+    let steps = Steps::new();
     let told = run(
         call[NUMBER_OFFSET],
         call[TENANT_OFFSET],

@@ -2,11 +2,11 @@
 #![tactic(auto)]
 
 ghost use Rattle.std.specs.Prelude.{◌≡◌, true};
-ghost use Rattle.draws.specs.Draw.{are_steps};
 ghost use Rattle.table.specs.Parts.{table_of, Whole};
 ghost use Rattle.replies.specs.Reply.{reply_of_delete};
 ghost use Rattle.deletion.specs.Deletion.{delete_reply, delete_medium, delete_some_medium};
 
+use draws::Steps;
 use limits::ALL_BURNS;
 use replies::{Check, DeleteAnswer, Refusal};
 use table::{Columns, Shape, Table};
@@ -16,14 +16,13 @@ use table::{Columns, Shape, Table};
 pub fn delete_in<'a>(
     shape: Shape,
     columns: Columns<'a>,
-    steps: &[u32],
+    steps: &Steps,
     medium: &mut [u32],
     tenant: u32,
     id: u32,
     burns: usize,
 ) -> DeleteAnswer
     requires whole { Whole columns }
-    requires steps_value { are_steps steps.now ≡ true }
     ensures reply { reply_of_delete result ≡ delete_reply (table_of shape columns.entry) medium.old tenant id }
     ensures medium { medium.new ≡ delete_some_medium (table_of shape columns.entry) medium.old tenant id burns }
 {
@@ -54,7 +53,7 @@ pub fn delete_some(
         salt: table.salt,
         count: table.count,
     };
-    let steps = draws::steps();
+    let steps = Steps::new();
     let columns: Columns = [
         &table.weights,
         &table.used,

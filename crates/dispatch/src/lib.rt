@@ -4,13 +4,13 @@
 ghost use Rattle.std.specs.Prelude.{◌≡◌, true, ◌≢◌, ℕ, ◌<◌, length};
 ghost use Rattle.limits.specs.Limits.{max_capacity};
 ghost use Rattle.lists.specs.Below.{nth};
-ghost use Rattle.draws.specs.Draw.{are_steps};
 ghost use Rattle.table.specs.Parts.{table_of, Whole};
 ghost use Rattle.replies.specs.Number.{add_server_number, reweight_number, write_number};
 ghost use Rattle.replies.specs.Reply.{refused, reply_of_server};
 ghost use Rattle.dispatch.specs.ByNumber.{call_of, no_call_number, reply_to, next_by, used_after};
 ghost use Rattle.dispatch.specs.BySome.{some_reply, some_next};
 
+use draws::Steps;
 use limits::ALL_BURNS;
 use replies::{ADD_SERVER, DELETE, LOOKUP, REWEIGHT, Reply, WRITE};
 use servers::Changed;
@@ -58,11 +58,10 @@ pub fn run_some<'a>(
     burns: usize,
     shape: Shape,
     columns: Columns<'a>,
-    steps: &[u32],
+    steps: &Steps,
     medium: &mut [u32],
 ) -> Reply
     requires whole { Whole columns }
-    requires steps_value { are_steps steps.now ≡ true }
     ensures reply { result
         ≡ some_reply (record { table = table_of shape columns.entry; medium = medium.old }) number tenant id value }
     ensures medium { medium.new
@@ -86,7 +85,7 @@ pub fn run_some<'a>(
 pub fn run_in<'a>(
     shape: Shape,
     columns: Columns<'a>,
-    steps: &[u32],
+    steps: &Steps,
     medium: &mut [u32],
     number: u32,
     tenant: u32,
@@ -94,7 +93,6 @@ pub fn run_in<'a>(
     amount: u32,
 ) -> Reply
     requires whole { Whole columns }
-    requires steps_value { are_steps steps.now ≡ true }
     requires number_nonzero { (number ≢ add_server_number) × (number ≢ reweight_number) }
     ensures reply { result
         ≡ reply_to (record { table = table_of shape columns.entry; medium = medium.old }) (call_of number tenant subject amount) }

@@ -4,12 +4,12 @@
 ghost use Rattle.std.specs.Prelude.{◌≡◌, true, ◌<◌, length, take};
 ghost use Rattle.limits.specs.Limits.{content_range};
 ghost use Rattle.lists.specs.Below.{nth};
-ghost use Rattle.draws.specs.Draw.{are_steps};
 ghost use Rattle.medium.specs.Entry.{AllInside};
 ghost use Rattle.medium.specs.Burn.{burn_all, invalidations};
 ghost use Rattle.table.specs.Parts.{column, table_of, Whole};
 ghost use Rattle.invalidation.specs.Marks.{marks_from};
 
+use draws::Steps;
 use placement::Fraction;
 use table::{Columns, Shape};
 
@@ -19,7 +19,7 @@ pub fn invalidate<'a>(
     medium: &mut [u32],
     shape: Shape,
     columns: Columns<'a>,
-    steps: &[u32],
+    steps: &Steps,
     id: u32,
     from: usize,
     content: u32,
@@ -28,7 +28,6 @@ pub fn invalidate<'a>(
     requires whole { Whole columns }
     requires all_inside { AllInside shape.capacity shape.count (nth (column columns 1)) medium.old }
     requires content_lt_content_range { content < content_range }
-    requires steps_value { are_steps steps.now ≡ true }
     ensures count { result ≡ length (marks_from (table_of shape columns.entry) medium.old id from) }
     ensures words { medium.new
         ≡ burn_all medium.old (take burns (invalidations content (marks_from (table_of shape columns.entry) medium.old id from))) }

@@ -2,12 +2,12 @@
 #![tactic(auto)]
 
 ghost use Rattle.std.specs.Prelude.{◌≡◌, true, ◌<◌, Some};
-ghost use Rattle.draws.specs.Draw.{are_steps};
 ghost use Rattle.medium.specs.Entry.{Inside};
 ghost use Rattle.table.specs.Parts.{table_of, Whole};
 ghost use Rattle.replies.specs.Reply.{reply_of_lookup};
 ghost use Rattle.lookup.specs.Lookup.{met_reply, lookup_reply, lookup_table};
 
+use draws::Steps;
 use replies::{Check, LookupAnswer, Refusal};
 use search::SearchAnswer;
 use table::{Columns, Shape, Table};
@@ -43,13 +43,12 @@ pub fn met(
 pub fn lookup_in<'a>(
     shape: Shape,
     columns: Columns<'a>,
-    steps: &[u32],
+    steps: &Steps,
     medium: &[u32],
     tenant: u32,
     id: u32,
 ) -> LookupAnswer
     requires whole { Whole columns }
-    requires steps_value { are_steps steps.now ≡ true }
     ensures { reply_of_lookup result ≡ lookup_reply (table_of shape columns.entry) medium.now tenant id }
 {
     let capacity = shape.capacity;
@@ -74,7 +73,7 @@ pub fn lookup(table: Table, medium: &[u32], tenant: u32, id: u32) -> LookedUp
         salt: table.salt,
         count: table.count,
     };
-    let steps = draws::steps();
+    let steps = Steps::new();
     let columns: Columns = [
         &table.weights,
         &table.used,

@@ -4,11 +4,11 @@
 
 ghost use Rattle.std.specs.Prelude.{◌≡◌, true, ◌+◌, ◌≤◌, ◌<◌, length};
 ghost use Rattle.lists.specs.Below.{nth, some_below, highest, or_zero, set_below};
-ghost use Rattle.draws.specs.Draw.{are_steps};
 ghost use Rattle.placement.specs.Rule.{write_server, Bounded};
 ghost use Rattle.picks.specs.Picks.{bounded, picks_of};
 ghost use Rattle.picks.specs.Limited.{block, passes, Limited};
 
+use draws::Steps;
 use limits::{CONTENT_RANGE, Column, MAX_CAPACITY, MAX_SERVERS};
 use placement::Fraction;
 
@@ -59,13 +59,12 @@ fn limits_of(weights: &[u32]) -> Column
 }
 
 // Whether a server takes an id: its weight is not 0 and its draw is not above its limit.
-fn takes(weights: &[u32], limits: &Column, steps: &[u32], salt: u32, id: u32, k: usize) -> bool
+fn takes(weights: &[u32], limits: &Column, steps: &Steps, salt: u32, id: u32, k: usize) -> bool
     requires limited { Limited weights.now limits.now }
-    requires steps_value { are_steps steps.now ≡ true }
     requires k_in_bounds { k < length weights.now }
     ensures { result ≡ passes weights.now salt id k }
 {
-    let draw = draws::draw(steps, salt, id, k);
+    let draw = steps.draw(salt, id, k);
     (0 < weights[k]) & (draw <= limits[k])
 }
 
@@ -73,13 +72,12 @@ fn takes(weights: &[u32], limits: &Column, steps: &[u32], salt: u32, id: u32, k:
 fn some_takes(
     weights: &[u32],
     limits: &Column,
-    steps: &[u32],
+    steps: &Steps,
     salt: u32,
     id: u32,
     from: usize,
 ) -> bool
     requires limited { Limited weights.now limits.now }
-    requires steps_value { are_steps steps.now ≡ true }
     requires block_in_bounds { from + block ≤ length weights.now }
     ensures { result ≡ some_below (λ i. passes weights.now salt id (from + i)) block }
 {
@@ -96,13 +94,12 @@ fn some_takes(
 fn highest_of(
     weights: &[u32],
     limits: &Column,
-    steps: &[u32],
+    steps: &Steps,
     salt: u32,
     id: u32,
     from: usize,
 ) -> usize
     requires limited { Limited weights.now limits.now }
-    requires steps_value { are_steps steps.now ≡ true }
     requires block_in_bounds { from + block ≤ length weights.now }
     ensures { result ≡ or_zero (highest (λ i. passes weights.now salt id (from + i)) block) }
 {
@@ -119,10 +116,9 @@ fn highest_of(
 
 // The write server of an id: from the highest down, a block of which none takes it is passed over, and the lowest servers, too few
 // for a block, are left to `write_server`.
-fn server_of(weights: &[u32], limits: &Column, steps: &[u32], salt: u32, id: u32) -> usize
+fn server_of(weights: &[u32], limits: &Column, steps: &Steps, salt: u32, id: u32) -> usize
     requires bounded { Bounded weights.now (length weights.now) }
     requires limited { Limited weights.now limits.now }
-    requires steps_value { are_steps steps.now ≡ true }
     ensures { result ≡ write_server (nth weights.now) (length weights.now) salt id }
 {
     let mut k = weights.len();
@@ -146,7 +142,7 @@ fn pick_many(weights: &[u32], salt: u32, n: usize, ids: &[u32], servers: &mut [u
         servers.old }
 {
     let limits = limits_of(weights);
-    let steps = draws::steps();
+    let steps = Steps::new();
     let mut i: usize = 0;
     while i < n {
         servers[i] = server_of(weights, &limits, &steps, salt, ids[i]) as u32;
@@ -174,7 +170,7 @@ pub fn picks(weights: &[u32], salt: u32, ids: &[u32], servers: &mut [u32]) -> us
         pick_many(weights, salt, n, ids, servers);
         return n;
     }
-    let steps = draws::steps();
+    let steps = Steps::new();
     let mut i: usize = 0;
     while i < n {
         servers[i] = placement::write_server(weights, &steps, count, salt, ids[i]) as u32;

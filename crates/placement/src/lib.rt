@@ -5,9 +5,11 @@
 ghost use Rattle.std.specs.Prelude.{◌≡◌, true, ◌&&◌, ℕ, ◌<◌, leb, ltb};
 ghost use Rattle.limits.specs.Limits.{max_servers};
 ghost use Rattle.lists.specs.Below.{nth, total};
-ghost use Rattle.draws.specs.Draw.{modulus, are_steps, draw_of};
+ghost use Rattle.draws.specs.Draw.{modulus, draw_of};
 ghost use Rattle.placement.specs.Fraction.{exceeds, at_least};
 ghost use Rattle.placement.specs.Rule.{share_of, write_server, Bounded};
+
+use draws::Steps;
 
 // A fraction as document 01 keeps it: a pair, not reduced.
 #[derive(Clone, Copy)]
@@ -63,12 +65,11 @@ pub fn write_p(server: usize, weight: u32, sum: u32) -> Fraction
 
 // Whether a server with this fraction takes an id under a salt: the fraction exceeds the server's draw. With WriteP it is the
 // write rule, with ReadP the read rule.
-pub fn takes(f: Fraction, steps: &[u32], salt: u32, id: u32, server: usize) -> bool
-    requires steps_value { are_steps steps.now ≡ true }
+pub fn takes(f: Fraction, steps: &Steps, salt: u32, id: u32, server: usize) -> bool
     requires server_lt_max_servers { server < max_servers }
     ensures { result ≡ exceeds modulus f (draw_of salt id server) }
 {
-    exceeds(f, draws::draw(steps, salt, id, server))
+    exceeds(f, steps.draw(salt, id, server))
 }
 
 // The sum of the first `count` weights.
@@ -88,9 +89,8 @@ pub fn sum_weights(weights: &[u32], count: usize) -> u32
 // The write server of an id under a salt among `count` servers: from the highest down, the first whose WriteP exceeds its draw.
 // Server 0 takes what no other does, so that the loop ends above it. A weight of 0 needs no case of its own, since a fraction of
 // 0 exceeds no draw.
-pub fn write_server(weights: &[u32], steps: &[u32], count: usize, salt: u32, id: u32) -> usize
+pub fn write_server(weights: &[u32], steps: &Steps, count: usize, salt: u32, id: u32) -> usize
     requires bounded { Bounded weights.now count }
-    requires steps_value { are_steps steps.now ≡ true }
     ensures { result ≡ write_server (nth weights.now) count salt id }
 {
     let mut sum = sum_weights(weights, count);

@@ -2,12 +2,12 @@
 #![tactic(auto)]
 
 ghost use Rattle.std.specs.Prelude.{◌≡◌, true};
-ghost use Rattle.draws.specs.Draw.{are_steps};
 ghost use Rattle.table.specs.Parts.{table_of, Whole};
 ghost use Rattle.replies.specs.Refusal.{first_of, settle};
 ghost use Rattle.planning.specs.Plan.{plan_number, plan_server};
 ghost use Rattle.planning.specs.WriteRows.{target, write_rows};
 
+use draws::Steps;
 use limits::CONTENT_RANGE;
 use replies::{Check, Refusal};
 use table::{Columns, Shape};
@@ -23,14 +23,13 @@ pub enum Plan {
 pub fn plan_write<'a>(
     shape: Shape,
     columns: Columns<'a>,
-    steps: &[u32],
+    steps: &Steps,
     medium: &[u32],
     tenant: u32,
     id: u32,
     value: u32,
 ) -> Plan
     requires whole { Whole columns }
-    requires steps_value { are_steps steps.now ≡ true }
     ensures number { plan_number result ≡ first_of (write_rows (table_of shape columns.entry) medium.now tenant id value) }
     ensures server { plan_server result
         ≡ settle (write_rows (table_of shape columns.entry) medium.now tenant id value) (target (table_of shape columns.entry) id) 0 }

@@ -3,7 +3,6 @@
 #![tactic(auto)]
 
 ghost use Rattle.std.specs.Prelude.{◌≡◌, true, ◌≤◌, ◌*◌, length};
-ghost use Rattle.draws.specs.Draw.{are_steps};
 ghost use Rattle.table_words.specs.Words.{table_length, with_table};
 ghost use Rattle.history.specs.Machine.{after, start_state};
 ghost use Rattle.encoding.specs.Encoding.{call_length, reply_length};
@@ -11,6 +10,7 @@ ghost use Rattle.call_words.specs.CallWords.{lent};
 ghost use Rattle.replay.specs.Replay.{calls_below, with_replies, runs, reply_at, LedgerWords};
 ghost use Rattle.replay.specs.Lent.{resumes};
 
+use draws::Steps;
 use encoding::{AMOUNT_OFFSET, CALL_LENGTH, NUMBER_OFFSET, SUBJECT_OFFSET, TENANT_OFFSET};
 use replies::Check;
 use table_words::TABLE_LENGTH;
@@ -19,14 +19,13 @@ use table_words::TABLE_LENGTH;
 // word.
 fn run_calls(
     table: &mut [u32],
-    steps: &[u32],
+    steps: &Steps,
     calls: &[u32],
     medium: &mut [u32],
     replies: &mut [u32],
     n: usize,
 )
     requires table_length_in_bounds { table_length ≤ length table.old }
-    requires steps_value { are_steps steps.now ≡ true }
     requires n_in_bounds { (call_length * n ≤ length calls.now) × (reply_length * n ≤ length replies.old) }
     ensures table { table.new
         ≡ with_table table.old (after (lent table.old medium.old) (calls_below calls.now n)).table }
@@ -80,7 +79,7 @@ pub fn replay(
     let n = encoding::room(calls.len(), replies.len());
     let mut words = zero_words();
     table_words::store_table(&mut words, begun.table);
-    let steps = draws::steps();
+    let steps = Steps::new();
     run_calls(&mut words, &steps, calls, medium, replies, n);
     n
 }
@@ -98,7 +97,7 @@ pub fn resume(table: &mut [u32], calls: &[u32], medium: &mut [u32], replies: &mu
         return 0;
     }
     let n = encoding::room(calls.len(), replies.len());
-    let steps = draws::steps();
+    let steps = Steps::new();
     run_calls(table, &steps, calls, medium, replies, n);
     n
 }

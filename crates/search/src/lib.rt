@@ -4,11 +4,11 @@
 
 ghost use Rattle.std.specs.Prelude.{◌≡◌, true};
 ghost use Rattle.lists.specs.Below.{nth};
-ghost use Rattle.draws.specs.Draw.{are_steps};
 ghost use Rattle.medium.specs.Entry.{AllInside};
 ghost use Rattle.table.specs.Parts.{column, table_of, Whole};
 ghost use Rattle.search.specs.Search.{search_for, answer_of};
 
+use draws::Steps;
 use placement::Fraction;
 use table::{Columns, Shape};
 
@@ -23,13 +23,12 @@ pub enum SearchAnswer {
 pub fn find<'a>(
     shape: Shape,
     columns: Columns<'a>,
-    steps: &[u32],
+    steps: &Steps,
     medium: &[u32],
     id: u32,
 ) -> SearchAnswer
     requires whole { Whole columns }
     requires all_inside { AllInside shape.capacity shape.count (nth (column columns 1)) medium.now }
-    requires steps_value { are_steps steps.now ≡ true }
     ensures { result ≡ answer_of (search_for (table_of shape columns.entry) medium.now id) }
 {
     let capacity = shape.capacity;

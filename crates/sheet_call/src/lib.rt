@@ -12,6 +12,7 @@ ghost use Rattle.printing.specs.Print.{longest_line, question};
 ghost use Rattle.sheet_start.specs.SheetStart.{sheet_of};
 ghost use Rattle.sheet_call.specs.SheetCall.{call_run};
 
+use draws::Steps;
 use dispatch::Ran;
 use limits::Column;
 use replies::{Reply, WRITE};
@@ -59,7 +60,7 @@ fn run_by_value(
         salt: table.salt,
         count: table.count,
     };
-    let steps = draws::steps();
+    let steps = Steps::new();
     let columns: Columns = [
         &table.weights,
         &table.used,

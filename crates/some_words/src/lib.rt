@@ -2,12 +2,12 @@
 #![tactic(auto)]
 
 ghost use Rattle.std.specs.Prelude.{◌≡◌, true, ◌≤◌, length};
-ghost use Rattle.draws.specs.Draw.{are_steps};
 ghost use Rattle.table_words.specs.Words.{table_length, with_table};
 ghost use Rattle.dispatch.specs.BySome.{some_reply, some_next};
 ghost use Rattle.call_words.specs.CallWords.{lent};
 ghost use Rattle.some_words.specs.SomeWords.{after_some};
 
+use draws::Steps;
 use encoding::{
     AMOUNT_OFFSET, BURNS_OFFSET, CALL_LENGTH, NUMBER_OFFSET, REPLY_LENGTH, SUBJECT_OFFSET,
     TENANT_OFFSET,
@@ -24,10 +24,9 @@ fn run_on(
     burns: usize,
     words: &[u32],
     medium: &mut [u32],
-    steps: &[u32],
+    steps: &Steps,
 ) -> Reply
     requires table_length_in_bounds { table_length ≤ length words.now }
-    requires steps_value { are_steps steps.now ≡ true }
     ensures reply { result ≡ some_reply (lent words.now medium.old) number tenant id value }
     ensures medium { medium.new ≡ (some_next (lent words.now medium.old) number tenant id value burns).medium }
 {
@@ -47,10 +46,9 @@ fn run(
     burns: usize,
     table: &mut [u32],
     medium: &mut [u32],
-    steps: &[u32],
+    steps: &Steps,
 ) -> Reply
     requires table_length_in_bounds { table_length ≤ length table.old }
-    requires steps_value { are_steps steps.now ≡ true }
     ensures reply { result ≡ some_reply (lent table.old medium.old) number tenant id value }
     ensures table { table.new
         ≡ with_table table.old (some_next (lent table.old medium.old) number tenant id value burns).table }
@@ -80,7 +78,7 @@ pub fn call_some(table: &mut [u32], medium: &mut [u32], call: &[u32], reply: &mu
     if reply.len() < REPLY_LENGTH {
         return encoding::TOO_SHORT;
     }
-    let steps = draws::steps();
+    let steps = Steps::new();
     let burns = call[BURNS_OFFSET] as usize;
     let told = run(
         call[NUMBER_OFFSET],

@@ -81,6 +81,10 @@ pub range-high : (capacity salt : ℕ) → in_range capacity salt ≡ true → c
 unfolding in_range
 range-high capacity salt e = leb-true capacity 65536 (search (and_l, and_r))
 
+pub sound-ranged : (t : Table) → sound t ≡ true → in_range t.capacity t.salt ≡ true
+unfolding sound
+sound-ranged t e = search and_l
+
 pub sound-facts : (t : Table) → sound t ≡ true → Sound t
 unfolding sound in_range
 sound-facts t e = record {

@@ -1,13 +1,13 @@
 -- A table taken apart and put together again: its shape, which is the numbers that it has once and not for each
 -- server or tenant, its four columns and its counters, in the order of the fields.
-use Rattle.std.specs.Prelude.{ℕ, Bool, List, [], ◌≡◌, length, get_or, replicate}
-use Rattle.std.specs.Borrow.{Bor}
+use Rattle.std.specs.Prelude.{ℕ, Bool, List, replicate}
 use Rattle.limits.specs.Limits.{max_servers, tenants}
 use Rattle.lists.specs.Below.{nth}
 use Rattle.placement.specs.declared.Fraction.{Fraction}
 use Rattle.placement.specs.Rule.{readable}
 use Rattle.table.specs.declared.Table.{Table}
 use Rattle.table.specs.declared.Shape.{Shape}
+use Rattle.table.specs.declared.View.{View}
 
 abbrev pub shape_of : Table → Shape
 shape_of t = record { capacity = t.capacity; salt = t.salt; count = t.count }
@@ -28,21 +28,9 @@ table_by shape weights used numerators denominators counters = record {
 abbrev pub with_counters : Table → List ℕ → Table
 with_counters t counters = table_by (shape_of t) t.weights t.used t.numerators t.denominators counters
 
--- what stands in column i of the columns lent together
-abbrev pub column : List (Bor (List ℕ)) → ℕ → List ℕ
-column columns i = (get_or columns i (record { ref_ptr = (0, 0); now = [] })).now
-
--- the table that they belong to
-abbrev pub table_of : Shape → List (Bor (List ℕ)) → Table
-table_of shape columns = table_by shape (column columns 0) (column columns 1) (column columns 2) (column columns 3) (column columns 4)
-
--- each column has a number for each server that there may be, and there is a counter for each tenant
-pub record Whole (columns : List (Bor (List ℕ))) : Type 0 where
-  pub weights : length (column columns 0) ≡ max_servers
-  pub used : length (column columns 1) ≡ max_servers
-  pub numerators : length (column columns 2) ≡ max_servers
-  pub denominators : length (column columns 3) ≡ max_servers
-  pub counters : length (column columns 4) ≡ tenants
+-- the table that is lent
+abbrev pub table_of : View → Table
+table_of v = table_by v.shape v.weights.now v.used.now v.numerators.now v.denominators.now v.counters.now
 
 -- a column of zeros, and the table of count 0, whose counters are zeros too
 abbrev pub zeros : List ℕ

@@ -1,9 +1,9 @@
 // The table of servers, by value: an empty one, and whether one is sound.
 #![tactic(auto)]
 
-ghost use Rattle.std.specs.Prelude.{◌≡◌, true, cond, ◌≤◌, length, leb, ltb};
-ghost use Rattle.lists.specs.Below.{nth};
-ghost use Rattle.table.specs.Parts.{table_of, Whole, empty};
+ghost use Rattle.std.specs.Prelude.{◌≡◌, ◌<◌, true, cond, leb, ltb};
+ghost use Rattle.limits.specs.Limits.{max_servers};
+ghost use Rattle.table.specs.Parts.{table_of, read_p, empty};
 ghost use Rattle.table.specs.Sound.{in_range, read_sound, sound};
 
 use limits::{CONTENT_RANGE, Column, Counters, MAX_CAPACITY, MAX_SERVERS, MAX_SUM, TENANTS};
@@ -24,16 +24,43 @@ pub struct Table {
     pub counters: Counters,
 }
 
-// The columns of a table and its counters, lent together, in the order of its fields. Each is a slice, so that it may be a part of
-// lent words; who takes them asks that each has all its numbers (`Whole`).
-pub type Columns<'a> = [&'a [u32]; 5];
-
 // The numbers that a table has once, and not for each server or tenant.
 #[derive(Clone, Copy)]
 pub struct Shape {
     pub capacity: u32,
     pub salt: u32,
     pub count: usize,
+}
+
+// A table lent: its columns and its counters are read where they lie, in a `Table` or among lent words, and none is copied.
+#[derive(Clone, Copy)]
+pub struct View<'a> {
+    pub shape: Shape,
+    pub weights: &'a Column,
+    pub used: &'a Column,
+    pub numerators: &'a Column,
+    pub denominators: &'a Column,
+    pub counters: &'a Counters,
+}
+
+impl Table {
+    // The table, lent.
+    pub fn view(&self) -> View<'_>
+        ensures { table_of result ≡ self.now }
+    {
+        View {
+            shape: Shape {
+                capacity: self.capacity,
+                salt: self.salt,
+                count: self.count,
+            },
+            weights: &self.weights,
+            used: &self.used,
+            numerators: &self.numerators,
+            denominators: &self.denominators,
+            counters: &self.counters,
+        }
+    }
 }
 
 // A table of no server.
@@ -65,17 +92,6 @@ pub fn in_range(capacity: u32, salt: u32) -> bool
     salt < CONTENT_RANGE
 }
 
-// Whether ReadP of server 0, if it is there, is at least 1, which is its WriteP.
-fn first_sound(count: usize, numerators: &[u32], denominators: &[u32]) -> bool
-    requires { (1 ≤ length numerators.now) × (1 ≤ length denominators.now) }
-    ensures { result ≡ cond (ltb 0 count) (leb (nth denominators.now 0) (nth numerators.now 0)) true }
-{
-    if count < 1 {
-        return true;
-    }
-    denominators[0] <= numerators[0]
-}
-
 // Whether a ReadP is in range and at least this weight over this sum. With `sum` the weights of the servers up to it, that is its
 // WriteP but for server 0, whose WriteP is 1, and for a weight of 0, where any ReadP is at least WriteP.
 fn read_sound(read: Fraction, weight: u32, sum: u32) -> bool
@@ -97,49 +113,61 @@ fn read_sound(read: Fraction, weight: u32, sum: u32) -> bool
     placement::at_least(read, write)
 }
 
-// Whether a table of any bits is sound. It borrows the columns, so that a caller copies none.
-pub fn is_sound<'a>(shape: Shape, columns: Columns<'a>) -> bool
-    requires { Whole columns }
-    ensures { result ≡ sound (table_of shape columns.entry) }
-{
-    let capacity = shape.capacity;
-    let salt = shape.salt;
-    let count = shape.count;
-    let weights = columns[0];
-    let used = columns[1];
-    let numerators = columns[2];
-    let denominators = columns[3];
-    if !in_range(capacity, salt) {
-        return false;
+impl<'a> View<'a> {
+    // ReadP of a server.
+    pub fn read_p(&self, server: usize) -> Fraction
+        requires { server < max_servers }
+        ensures { result ≡ read_p (table_of self.now) server }
+    {
+        Fraction {
+            num: self.numerators[server],
+            den: self.denominators[server],
+        }
     }
-    if count > MAX_SERVERS {
-        return false;
+
+    // Whether ReadP of server 0, if it is there, is at least 1, which is its WriteP.
+    fn first_sound(&self) -> bool
+        ensures { result ≡ cond (ltb 0 self.now.shape.count) (leb (read_p (table_of self.now) 0).den (read_p (table_of self.now) 0).num) true }
+    {
+        if self.shape.count < 1 {
+            return true;
+        }
+        self.denominators[0] <= self.numerators[0]
     }
-    if !counters::in_bounds(columns[4]) {
-        return false;
-    }
-    if !first_sound(count, numerators, denominators) {
-        return false;
-    }
-    let mut sum: u32 = 0;
-    let mut i: usize = 0;
-    while i < count {
-        let weight = weights[i];
-        if weight > capacity {
+
+    // Whether a table of any bits is sound.
+    pub fn is_sound(&self) -> bool
+        ensures { result ≡ sound (table_of self.now) }
+    {
+        let capacity = self.shape.capacity;
+        let count = self.shape.count;
+        if !in_range(capacity, self.shape.salt) {
             return false;
         }
-        if used[i] > capacity {
+        if count > MAX_SERVERS {
             return false;
         }
-        sum += weight;
-        let read = Fraction {
-            num: numerators[i],
-            den: denominators[i],
-        };
-        if !read_sound(read, weight, sum) {
+        let counters = self.counters;
+        if !counters::in_bounds(counters) {
             return false;
         }
-        i += 1;
+        if !self.first_sound() {
+            return false;
+        }
+        let mut sum: u32 = 0;
+        for i in 0..count {
+            let weight = self.weights[i];
+            if weight > capacity {
+                return false;
+            }
+            if self.used[i] > capacity {
+                return false;
+            }
+            sum += weight;
+            if !read_sound(self.read_p(i), weight, sum) {
+                return false;
+            }
+        }
+        true
     }
-    true
 }

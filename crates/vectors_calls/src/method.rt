@@ -2,6 +2,7 @@
 ghost use Rattle.std.specs.Prelude.{◌≤◌};
 ghost use Rattle.limits.specs.Limits.{max_capacity};
 
+use draws::Steps;
 use crate::print;
 use placement::Fraction;
 use std::io;
@@ -21,18 +22,18 @@ fn picked(first: u32, second: u32, third: u32, salt: u32) -> u64
     requires { (first ≤ max_capacity) × (second ≤ max_capacity) × (third ≤ max_capacity) }
 {
     let weights: [u32; 3] = [first, second, third];
-    let steps = draws::steps();
+    let steps = Steps::new();
     placement::write_server(&weights, &steps, 3, salt, 626627286) as u64
 }
 
 // p is for the step of a server, s for the seed and d for the draw of an id on a server, r for a seed after some rounds, and k
 // for the pick among three servers of these weights; the last number of s, d and k is a salt.
 fn number(letter: u8, a: u32, b: u32, c: u32, d: u32) -> u64 {
-    let steps = draws::steps();
+    let steps = Steps::new();
     match letter {
-        b'p' => draws::step(&steps, (a % 256) as usize) as u64,
-        b's' => draws::seed(&steps, c, a, (b % 256) as usize) as u64,
-        b'd' => draws::draw(&steps, c, a, (b % 256) as usize) as u64,
+        b'p' => steps.step((a % 256) as usize) as u64,
+        b's' => steps.seed(c, a, (b % 256) as usize) as u64,
+        b'd' => steps.draw(c, a, (b % 256) as usize) as u64,
         b'r' => rounds(a, b) as u64,
         _ => picked(a % 65537, b % 65537, c % 65537, d),
     }

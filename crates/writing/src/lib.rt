@@ -3,7 +3,6 @@
 
 ghost use Rattle.std.specs.Prelude.{◌≡◌, true, [], ◌∷◌, ◌<◌, ◌+◌, ◌-◌, length, take, leb};
 ghost use Rattle.limits.specs.Limits.{content_range};
-ghost use Rattle.draws.specs.Draw.{are_steps};
 ghost use Rattle.medium.specs.Word.{id_word, value_word};
 ghost use Rattle.medium.specs.Entry.{value_place};
 ghost use Rattle.medium.specs.Burn.{burn_all};
@@ -11,6 +10,7 @@ ghost use Rattle.table.specs.Parts.{table_of, Whole};
 ghost use Rattle.replies.specs.Reply.{reply_of_write};
 ghost use Rattle.writing.specs.Writing.{write_reply, write_table, write_medium, write_some_table, write_some_medium};
 
+use draws::Steps;
 use limits::ALL_BURNS;
 use planning::Plan;
 use replies::WriteAnswer;
@@ -66,7 +66,7 @@ fn enter(medium: &mut [u32], at: usize, id: u32, value: u32, burns: usize)
 pub fn write_in<'a>(
     shape: Shape,
     columns: Columns<'a>,
-    steps: &[u32],
+    steps: &Steps,
     medium: &mut [u32],
     tenant: u32,
     id: u32,
@@ -74,7 +74,6 @@ pub fn write_in<'a>(
     burns: usize,
 ) -> WriteAnswer
     requires whole { Whole columns }
-    requires steps_value { are_steps steps.now ≡ true }
     ensures reply { reply_of_write result ≡ write_reply (table_of shape columns.entry) medium.old tenant id value }
     ensures medium { medium.new ≡ write_some_medium (table_of shape columns.entry) medium.old tenant id value burns }
 {
@@ -121,7 +120,7 @@ pub fn write_some(
         salt: table.salt,
         count: table.count,
     };
-    let steps = draws::steps();
+    let steps = Steps::new();
     let columns: Columns = [
         &table.weights,
         &table.used,
