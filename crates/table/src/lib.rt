@@ -125,6 +125,22 @@ impl<'a> View<'a> {
         }
     }
 
+    // The table by value.
+    pub fn to_table(&self) -> Table
+        ensures { result ≡ table_of self.now }
+    {
+        Table {
+            capacity: self.shape.capacity,
+            salt: self.shape.salt,
+            count: self.shape.count,
+            weights: *self.weights,
+            used: *self.used,
+            numerators: *self.numerators,
+            denominators: *self.denominators,
+            counters: *self.counters,
+        }
+    }
+
     // Whether ReadP of server 0, if it is there, is at least 1, which is its WriteP.
     fn first_sound(&self) -> bool
         ensures { result ≡ cond (ltb 0 self.now.shape.count) (leb (read_p (table_of self.now) 0).den (read_p (table_of self.now) 0).num) true }

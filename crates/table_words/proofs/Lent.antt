@@ -7,13 +7,9 @@ use native.Mathlib.Omega.{arith}
 use lib.ListN.{length, drop, set, length-append, length-take, length-drop}
 use lib.Seq.{take_all, take_at, drop-append-add, drop-drop, sets-eq, paste}
 use borrow.Author.Tests.{le-ltb}
-use Rattle.lists.specs.Array.{array_at}
-use Rattle.lists.proofs.Arrays.{array_at-whole}
 use Rattle.table.specs.declared.Table.{Table}
-use Rattle.table.specs.declared.Shape.{Shape}
-use Rattle.table.specs.Parts.{table_by}
 use Rattle.table.proofs.Soundness.{Arrays}
-use Rattle.table_words.specs.Words.{capacity_offset, salt_offset, count_offset, weights_offset, used_offset, numerators_offset, denominators_offset, counters_offset, table_length, column_from, shape_from, counters_from, table_from, words_of, with_table}
+use Rattle.table_words.specs.Words.{capacity_offset, salt_offset, count_offset, weights_offset, used_offset, numerators_offset, denominators_offset, counters_offset, table_length, column_from, counters_from, table_from, words_of, with_table}
 
 -- columns and counters have all their numbers
 pub length-column : (words : List ℕ) (at : ℕ) → at + 256 ≤ length words → length (column_from words at) ≡ 256
@@ -32,15 +28,6 @@ lent-arrays words l = record {
   denominators = length-column words denominators_offset (omega arith);
   counters = length-counters words l;
 }
-
-pub read_table : (words : List ℕ) (shape : Shape) (weights used numerators denominators counters : List ℕ)
-    → shape ≡ shape_from words → weights ≡ array_at 256 words weights_offset 256 → used ≡ array_at 256 words used_offset 256
-    → numerators ≡ array_at 256 words numerators_offset 256 → denominators ≡ array_at 256 words denominators_offset 256 → counters ≡ counters_from words
-    → table_by shape weights used numerators denominators counters ≡ table_from words
-unfolding table_from
-read_table words shape weights used numerators denominators counters s a b c d e =
-    let whole = array_at-whole 256 words in
-    rw (s, a, b, c, d, e, whole weights_offset, whole used_offset, whole numerators_offset, whole denominators_offset)
 
 -- words of which the first n are a run x, and the rest are as lent
 record Front (w x words : List ℕ) (n : ℕ) : Type 0 where

@@ -1,13 +1,12 @@
 // A table lent as words: read out of them, and stored in front of them. specs/Words.antt has the layout.
 #![tactic(auto)]
 
-ghost use Rattle.std.specs.Prelude.{◌≡◌, ◌<◌, ◌≤◌, ◌+◌, length};
+ghost use Rattle.std.specs.Prelude.{◌≡◌, ◌<◌, ◌≤◌, ◌+◌, length, take, drop};
 ghost use Rattle.std.proofs.Math.Seq.{paste};
-ghost use Rattle.table.specs.Parts.{table_of, Whole};
-ghost use Rattle.table_words.specs.Words.{table_length, shape_from, counters_from, table_from, with_table};
+ghost use Rattle.table.specs.Parts.{table_of};
+ghost use Rattle.table_words.specs.Words.{table_length, shape_from, table_from, with_table};
 
-use limits::{Counters, MAX_SERVERS, TENANTS};
-use table::{Columns, Shape, Table};
+use table::{Shape, Table, View};
 
 // How many words a table has, where each of its numbers stands and where each of its columns and its counters begin.
 pub const TABLE_LENGTH: usize = 1035;
@@ -28,18 +27,12 @@ pub const DENOMINATORS_OFFSET: usize = 771;
 
 pub const COUNTERS_OFFSET: usize = 1027;
 
-// The counters of a table lent as words.
-fn counters_from(words: &[u32]) -> Counters
-    requires { table_length ≤ length words.now }
-    ensures { result ≡ counters_from words.now }
+// The array that begins at a word, where it lies.
+fn array_in<const N: usize>(words: &[u32], from: usize) -> &[u32; N]
+    requires { from + N ≤ length words.now }
+    ensures { result.now ≡ take N (drop from words.now) }
 {
-    let mut counters: Counters = [0; TENANTS];
-    let mut i: usize = 0;
-    while i < TENANTS {
-        counters[i] = words[COUNTERS_OFFSET + i];
-        i += 1;
-    }
-    counters
+    words[from..].first_chunk().unwrap()
 }
 
 // The shape of a table lent as words.
@@ -54,38 +47,20 @@ pub fn shape_of(words: &[u32]) -> Shape
     }
 }
 
-// The table lent as words.
-pub fn table_from(words: &[u32]) -> Table
+// The table lent as words, read where it lies.
+pub fn view_of(words: &[u32]) -> View<'_>
     requires { table_length ≤ length words.now }
-    ensures table { result ≡ table_from words.now }
-    ensures count { result.count < 4294967296 }
+    ensures table { table_of result ≡ table_from words.now }
+    ensures count { result.shape.count < 4294967296 }
 {
-    let shape = shape_of(words);
-    Table {
-        capacity: shape.capacity,
-        salt: shape.salt,
-        count: shape.count,
-        weights: lists::array_at(words, WEIGHTS_OFFSET, MAX_SERVERS),
-        used: lists::array_at(words, USED_OFFSET, MAX_SERVERS),
-        numerators: lists::array_at(words, NUMERATORS_OFFSET, MAX_SERVERS),
-        denominators: lists::array_at(words, DENOMINATORS_OFFSET, MAX_SERVERS),
-        counters: counters_from(words),
+    View {
+        shape: shape_of(words),
+        weights: array_in(words, WEIGHTS_OFFSET),
+        used: array_in(words, USED_OFFSET),
+        numerators: array_in(words, NUMERATORS_OFFSET),
+        denominators: array_in(words, DENOMINATORS_OFFSET),
+        counters: array_in(words, COUNTERS_OFFSET),
     }
-}
-
-// The columns and the counters of a table lent as words, which are parts of the words: so a table is read where it lies.
-pub fn columns_of<'a>(words: &'a [u32]) -> Columns<'a>
-    requires { table_length ≤ length words.now }
-    ensures whole { Whole result }
-    ensures table { table_of (shape_from words.now) result ≡ table_from words.now }
-{
-    [
-        &words[WEIGHTS_OFFSET..USED_OFFSET],
-        &words[USED_OFFSET..NUMERATORS_OFFSET],
-        &words[NUMERATORS_OFFSET..DENOMINATORS_OFFSET],
-        &words[DENOMINATORS_OFFSET..COUNTERS_OFFSET],
-        &words[COUNTERS_OFFSET..TABLE_LENGTH],
-    ]
 }
 
 // Stores an array in a slice, from a position on.
@@ -93,11 +68,7 @@ fn store_array(words: &mut [u32], from: usize, array: &[u32])
     requires { from + length array.now ≤ length words.old }
     ensures { words.new ≡ paste words.old from array.now (length array.now) }
 {
-    let mut k: usize = 0;
-    while k < array.len() {
-        words[from + k] = array[k];
-        k += 1;
-    }
+    words[from..from + array.len()].copy_from_slice(array);
 }
 
 // Stores a table as words.
