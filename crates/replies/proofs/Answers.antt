@@ -11,8 +11,7 @@ use Rattle.replies.specs.declared.Refusal.{Refusal}
 use Rattle.replies.specs.declared.Refusal.TheVariants.{UnsoundTable, OutOfRange, NoSuchServer, TooManyServers, ShortMedium, ServerFull, NotBlank, NotFound, ExceedsFree, Corrupt, OtherTenant, BadImage, ShortDestination}
 use Rattle.replies.specs.Refusal.{Row, first_of, settle}
 use Rattle.replies.specs.declared.Reply.{Reply}
-use Rattle.replies.specs.declared.Check.{Check}
-use Rattle.replies.specs.declared.Check.TheVariants as check
+use Rattle.std.specs.Prelude.{Result, Ok, Err}
 use Rattle.replies.specs.Reply.{refused, accepted, reply_by, number_of, check_number, reply_of_check}
 use Rattle.replies.proofs.Refusals.{settle-yes, settle-no, settle-either}
 
@@ -34,12 +33,12 @@ number-not-zero BadImage e = omega arith
 number-not-zero ShortDestination e = omega arith
 
 -- what a check that is matched on says of the rows it stands for
-module _ (rows : List Row) {a : Check} (e : check_number a ≡ first_of rows) where
-  pub check-refused : {r : Refusal} → a ≡ check.Refused r → number_of r ≡ first_of rows
+module _ (rows : List Row) {a : Result (Unit {0}) Refusal} (e : check_number a ≡ first_of rows) where
+  pub check-refused : {r : Refusal} → a ≡ Err r → number_of r ≡ first_of rows
   unfolding check_number
   check-refused f = sym (ap check_number f) ∙ e
 
-  pub check-accepted : a ≡ check.Accepted → first_of rows ≡ 0
+  pub check-accepted : {u : Unit {0}} → a ≡ Ok u → first_of rows ≡ 0
   unfolding check_number
   check-accepted f = sym e ∙ ap check_number f
 
@@ -63,10 +62,10 @@ pub plan-refused : (rows : List Row) (r : Refusal) (k : ℕ) → number_of r ≡
 plan-refused rows r k e = (e, kept rows r e k 0)
 
 -- the answer of start is what its test says
-pub check-reply : (rows : List Row) (a : Check) → check_number a ≡ first_of rows → reply_of_check a ≡ reply_by rows accepted
+pub check-reply : (rows : List Row) (a : Result (Unit {0}) Refusal) → check_number a ≡ first_of rows → reply_of_check a ≡ reply_by rows accepted
 unfolding check_number reply_of_check
-check-reply rows check.Accepted e = sym (reply-done rows (sym e) accepted)
-check-reply rows (check.Refused r) e = reply-refused rows r e accepted
+check-reply rows (Ok _) e = sym (reply-done rows (sym e) accepted)
+check-reply rows (Err r) e = reply-refused rows r e accepted
 
 -- the refusal number of a reply is that of its rows
 pub reply-number : (rows : List Row) (done : Reply) → done.refusal ≡ 0 → (reply_by rows done).refusal ≡ first_of rows

@@ -6,18 +6,11 @@ use mathlib.Core.Bool.{cond}
 use lib.Dec.{eqb}
 use Rattle.replies.specs.declared.Refusal.{Refusal}
 use Rattle.replies.specs.declared.Refusal.TheVariants.{UnsoundTable, OutOfRange, NoSuchServer, TooManyServers, ShortMedium, ServerFull, NotBlank, NotFound, ExceedsFree, Corrupt, OtherTenant, BadImage, ShortDestination}
+use Rattle.std.specs.Prelude.{Result, Ok, Err}
 use Rattle.replies.specs.declared.Reply.{Reply}
-use Rattle.replies.specs.declared.Check.{Check}
-use Rattle.replies.specs.declared.Check.TheVariants as check
-use Rattle.replies.specs.declared.ServerAnswer.{ServerAnswer}
-use Rattle.replies.specs.declared.ServerAnswer.TheVariants as server
-use Rattle.replies.specs.declared.WriteAnswer.{WriteAnswer}
-use Rattle.replies.specs.declared.WriteAnswer.TheVariants as write
-use Rattle.replies.specs.declared.DeleteAnswer.{DeleteAnswer}
-use Rattle.replies.specs.declared.DeleteAnswer.TheVariants as delete
+use Rattle.replies.specs.declared.Written.{Written}
 use Rattle.replies.specs.declared.LookupAnswer.{LookupAnswer}
-use Rattle.replies.specs.declared.LookupAnswer.TheVariants as lookup
-use Rattle.replies.specs.Reply.{number_of, reply_of_check, reply_of_server, reply_of_write, reply_of_delete, reply_of_lookup}
+use Rattle.replies.specs.Reply.{number_of, reply_of_check, reply_of_server, reply_of_write, reply_of_delete, found_or, reply_of_lookup}
 use Rattle.replies.proofs.Answers.{number-not-zero}
 
 -- the refusal of a number, the last for every other
@@ -60,37 +53,52 @@ numbers_apart r s e = sym (back r) ∙ ap refusal_of e ∙ back s
 refusals : {x y : Reply} → x ≡ y → x.refusal ≡ y.refusal
 refusals e = ap (λ (r : Reply). r.refusal) e
 
-pub checks-apart : (a b : Check) → reply_of_check a ≡ reply_of_check b → a ≡ b
+pub checks-apart : (a b : Result (Unit {0}) Refusal) → reply_of_check a ≡ reply_of_check b → a ≡ b
 unfolding reply_of_check
-checks-apart check.Accepted check.Accepted e = refl
-checks-apart check.Accepted (check.Refused r) e = absurd (number-not-zero r (sym (refusals e)))
-checks-apart (check.Refused r) check.Accepted e = absurd (number-not-zero r (refusals e))
-checks-apart (check.Refused r) (check.Refused s) e = ap check.Refused (numbers_apart r s (refusals e))
+checks-apart (Ok _) (Ok _) e = refl
+checks-apart (Ok _) (Err r) e = absurd (number-not-zero r (sym (refusals e)))
+checks-apart (Err r) (Ok _) e = absurd (number-not-zero r (refusals e))
+checks-apart (Err r) (Err s) e = ap Err (numbers_apart r s (refusals e))
 
-pub servers-apart : (a b : ServerAnswer) → reply_of_server a ≡ reply_of_server b → a ≡ b
+pub servers-apart : (a b : Result ℕ Refusal) → reply_of_server a ≡ reply_of_server b → a ≡ b
 unfolding reply_of_server
-servers-apart (server.Server k) (server.Server l) e = ap server.Server (ap (λ (r : Reply). r.server) e)
-servers-apart (server.Server k) (server.Refused r) e = absurd (number-not-zero r (sym (refusals e)))
-servers-apart (server.Refused r) (server.Server k) e = absurd (number-not-zero r (refusals e))
-servers-apart (server.Refused r) (server.Refused s) e = ap server.Refused (numbers_apart r s (refusals e))
+servers-apart (Ok k) (Ok l) e = ap Ok (ap (λ (r : Reply). r.server) e)
+servers-apart (Ok k) (Err r) e = absurd (number-not-zero r (sym (refusals e)))
+servers-apart (Err r) (Ok k) e = absurd (number-not-zero r (refusals e))
+servers-apart (Err r) (Err s) e = ap Err (numbers_apart r s (refusals e))
 
-pub writes_apart : (a b : WriteAnswer) → reply_of_write a ≡ reply_of_write b → a ≡ b
+abbrev written : ℕ → ℕ → Result Written Refusal
+written k n = Ok (record { server = k; invalidated = n })
+
+pub writes_apart : (a b : Result Written Refusal) → reply_of_write a ≡ reply_of_write b → a ≡ b
 unfolding reply_of_write
-writes_apart (write.Written k n) (write.Written l o) e = ap₂ write.Written (ap (λ (r : Reply). r.server) e) (ap (λ (r : Reply). r.invalidated) e)
-writes_apart (write.Written k n) (write.Refused r) e = absurd (number-not-zero r (sym (refusals e)))
-writes_apart (write.Refused r) (write.Written k n) e = absurd (number-not-zero r (refusals e))
-writes_apart (write.Refused r) (write.Refused s) e = ap write.Refused (numbers_apart r s (refusals e))
+writes_apart (Ok v) (Ok w) e =
+    ap₂ written (ap (λ (r : Reply). r.server) e) (ap (λ (r : Reply). r.invalidated) e)
+writes_apart (Ok v) (Err r) e = absurd (number-not-zero r (sym (refusals e)))
+writes_apart (Err r) (Ok v) e = absurd (number-not-zero r (refusals e))
+writes_apart (Err r) (Err s) e = ap Err (numbers_apart r s (refusals e))
 
-pub deletes-apart : (a b : DeleteAnswer) → reply_of_delete a ≡ reply_of_delete b → a ≡ b
+pub deletes-apart : (a b : Result ℕ Refusal) → reply_of_delete a ≡ reply_of_delete b → a ≡ b
 unfolding reply_of_delete
-deletes-apart (delete.Deleted n) (delete.Deleted o) e = ap delete.Deleted (ap (λ (r : Reply). r.invalidated) e)
-deletes-apart (delete.Deleted n) (delete.Refused r) e = absurd (number-not-zero r (sym (refusals e)))
-deletes-apart (delete.Refused r) (delete.Deleted n) e = absurd (number-not-zero r (refusals e))
-deletes-apart (delete.Refused r) (delete.Refused s) e = ap delete.Refused (numbers_apart r s (refusals e))
+deletes-apart (Ok n) (Ok o) e = ap Ok (ap (λ (r : Reply). r.invalidated) e)
+deletes-apart (Ok n) (Err r) e = absurd (number-not-zero r (sym (refusals e)))
+deletes-apart (Err r) (Ok n) e = absurd (number-not-zero r (refusals e))
+deletes-apart (Err r) (Err s) e = ap Err (numbers_apart r s (refusals e))
+
+values_apart : (a b : Result ℕ Refusal) (n o : ℕ) → found_or a n ≡ found_or b o → a ≡ b
+unfolding found_or
+values_apart (Ok v) (Ok w) n o e = ap Ok (ap (λ (r : Reply). r.value) e)
+values_apart (Ok v) (Err r) n o e = absurd (number-not-zero r (sym (refusals e)))
+values_apart (Err r) (Ok v) n o e = absurd (number-not-zero r (refusals e))
+values_apart (Err r) (Err s) n o e = ap Err (numbers_apart r s (refusals e))
+
+opened-of : (a : Result ℕ Refusal) (n : ℕ) → (found_or a n).opened ≡ n
+unfolding found_or
+opened-of (Ok v) n = refl
+opened-of (Err r) n = refl
 
 pub lookups-apart : (a b : LookupAnswer) → reply_of_lookup a ≡ reply_of_lookup b → a ≡ b
 unfolding reply_of_lookup
-lookups-apart (lookup.Found v n) (lookup.Found w o) e = ap₂ lookup.Found (ap (λ (r : Reply). r.value) e) (ap (λ (r : Reply). r.opened) e)
-lookups-apart (lookup.Found v n) (lookup.Refused r o) e = absurd (number-not-zero r (sym (refusals e)))
-lookups-apart (lookup.Refused r n) (lookup.Found v o) e = absurd (number-not-zero r (refusals e))
-lookups-apart (lookup.Refused r n) (lookup.Refused s o) e = ap₂ lookup.Refused (numbers_apart r s (refusals e)) (ap (λ (r : Reply). r.opened) e)
+lookups-apart a b e =
+    ap₂ (λ (v : Result ℕ Refusal) (n : ℕ). record { value = v; opened = n }) (values_apart a.value b.value a.opened b.opened e)
+    (sym (opened-of a.value a.opened) ∙ ap (λ (r : Reply). r.opened) e ∙ opened-of b.value b.opened)

@@ -1,18 +1,10 @@
 -- Replies in document 01's numbers, and the reply that each case of an answer is.
-use Rattle.std.specs.Prelude.{ℕ, List}
+use Rattle.std.specs.Prelude.{ℕ, List, Result, Ok, Err}
 use Rattle.replies.specs.declared.Refusal.{Refusal}
 use Rattle.replies.specs.declared.Refusal.TheVariants.{UnsoundTable, OutOfRange, NoSuchServer, TooManyServers, ShortMedium, ServerFull, NotBlank, NotFound, ExceedsFree, Corrupt, OtherTenant, BadImage, ShortDestination}
 use Rattle.replies.specs.declared.Reply.{Reply}
-use Rattle.replies.specs.declared.Check.{Check}
-use Rattle.replies.specs.declared.Check.TheVariants as check
-use Rattle.replies.specs.declared.ServerAnswer.{ServerAnswer}
-use Rattle.replies.specs.declared.ServerAnswer.TheVariants as server
-use Rattle.replies.specs.declared.WriteAnswer.{WriteAnswer}
-use Rattle.replies.specs.declared.WriteAnswer.TheVariants as write
-use Rattle.replies.specs.declared.DeleteAnswer.{DeleteAnswer}
-use Rattle.replies.specs.declared.DeleteAnswer.TheVariants as delete
+use Rattle.replies.specs.declared.Written.{Written}
 use Rattle.replies.specs.declared.LookupAnswer.{LookupAnswer}
-use Rattle.replies.specs.declared.LookupAnswer.TheVariants as lookup
 use Rattle.replies.specs.Refusal.{Row, first_of, settle}
 
 -- a refusal carries its number alone, but for lookup's 8 and 10, which carry the servers opened
@@ -47,26 +39,30 @@ number_of OtherTenant = 11
 number_of BadImage = 12
 number_of ShortDestination = 13
 
-unfoldable pub check_number : Check → ℕ
-check_number check.Accepted = 0
-check_number (check.Refused r) = number_of r
+unfoldable pub check_number : Result (Unit {0}) Refusal → ℕ
+check_number (Ok _) = 0
+check_number (Err r) = number_of r
 
-unfoldable pub reply_of_check : Check → Reply
-reply_of_check check.Accepted = accepted
-reply_of_check (check.Refused r) = refused (number_of r) 0
+unfoldable pub reply_of_check : Result (Unit {0}) Refusal → Reply
+reply_of_check (Ok _) = accepted
+reply_of_check (Err r) = refused (number_of r) 0
 
-unfoldable pub reply_of_server : ServerAnswer → Reply
-reply_of_server (server.Server k) = on_server k 0
-reply_of_server (server.Refused r) = refused (number_of r) 0
+unfoldable pub reply_of_server : Result ℕ Refusal → Reply
+reply_of_server (Ok k) = on_server k 0
+reply_of_server (Err r) = refused (number_of r) 0
 
-unfoldable pub reply_of_write : WriteAnswer → Reply
-reply_of_write (write.Written k n) = on_server k n
-reply_of_write (write.Refused r) = refused (number_of r) 0
+unfoldable pub reply_of_write : Result Written Refusal → Reply
+reply_of_write (Ok w) = on_server w.server w.invalidated
+reply_of_write (Err r) = refused (number_of r) 0
 
-unfoldable pub reply_of_delete : DeleteAnswer → Reply
-reply_of_delete (delete.Deleted n) = on_server 0 n
-reply_of_delete (delete.Refused r) = refused (number_of r) 0
+unfoldable pub reply_of_delete : Result ℕ Refusal → Reply
+reply_of_delete (Ok n) = on_server 0 n
+reply_of_delete (Err r) = refused (number_of r) 0
+
+-- what a search answers, and how many servers it opened
+unfoldable pub found_or : Result ℕ Refusal → ℕ → Reply
+found_or (Ok v) n = found v n
+found_or (Err r) n = refused (number_of r) n
 
 unfoldable pub reply_of_lookup : LookupAnswer → Reply
-reply_of_lookup (lookup.Found v n) = found v n
-reply_of_lookup (lookup.Refused r n) = refused (number_of r) n
+reply_of_lookup a = found_or a.value a.opened

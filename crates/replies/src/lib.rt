@@ -1,10 +1,10 @@
-// Why a call is refused and what each call answers, both as enums and in document 01's numbers, and the number of each call.
+// Why a call is refused and what each call answers, as types and in document 01's numbers, and the number of each call.
 #![tactic(auto)]
 
 mod numbers;
 
 pub use numbers::{
-    check_number, delete_reply, lookup_reply, server_reply, start_reply, write_reply,
+    check_number, check_reply, delete_reply, lookup_reply, server_reply, write_reply,
 };
 
 // The number of each call; 0 is no call.
@@ -20,69 +20,48 @@ pub const LOOKUP: u32 = 5;
 
 // Why a call is refused: a case for each number, in their order from 1 to 13. 1 to 10 are document 01's, the others
 // document 02's.
-#[derive(Clone, Copy)]
+#[derive(Clone, Copy, PartialEq, Eq)]
 pub enum Refusal {
     // 1, foreign table: the table is not sound.
-    UnsoundTable,
+    UnsoundTable = 1,
     // 2, out of range: the capacity, a tenant, an id, a value or a weight is outside its range.
-    OutOfRange,
+    OutOfRange = 2,
     // 3, no such shelf: the server is at or above the count, or there is no server at all.
-    NoSuchServer,
+    NoSuchServer = 3,
     // 4, rack full: there are 256 servers already.
-    TooManyServers,
+    TooManyServers = 4,
     // 5, short medium: it has fewer words than the servers.
-    ShortMedium,
+    ShortMedium = 5,
     // 6, shelf full: every entry of the write server is used.
-    ServerFull,
+    ServerFull = 6,
     // 7, not blank: a word of the new server or of the target entry is not blank.
-    NotBlank,
+    NotBlank = 7,
     // 8, absent: no readable server has a live entry of the id.
-    NotFound,
+    NotFound = 8,
     // 9, over free: the weight is above the entries that the server has left.
-    ExceedsFree,
+    ExceedsFree = 9,
     // 10, damaged: the value word that a lookup found has another tag.
-    Corrupt,
+    Corrupt = 10,
     // 11, another club's ticket: the id is another tenant's than the caller's.
-    OtherTenant,
+    OtherTenant = 11,
     // 12, bad sheet: no sound table has these words as its image.
-    BadImage,
+    BadImage = 12,
     // 13, destination short: it has fewer words than the image.
-    ShortDestination,
+    ShortDestination = 13,
 }
 
-// What the tests before a call say, and the answer of start.
+// What an accepted write did: the server that it went to, and how many earlier entries it invalidated.
 #[derive(Clone, Copy)]
-pub enum Check {
-    Accepted,
-    Refused(Refusal),
-}
-
-// The answer of add_server and reweight: the server's number.
-#[derive(Clone, Copy)]
-pub enum ServerAnswer {
-    Server(usize),
-    Refused(Refusal),
-}
-
-// The answer of write: the server, and how many earlier entries it invalidated.
-#[derive(Clone, Copy)]
-pub enum WriteAnswer {
-    Written(usize, usize),
-    Refused(Refusal),
-}
-
-// The answer of delete: how many entries it invalidated.
-#[derive(Clone, Copy)]
-pub enum DeleteAnswer {
-    Deleted(usize),
-    Refused(Refusal),
+pub struct Written {
+    pub server: usize,
+    pub invalidated: usize,
 }
 
 // The answer of lookup: the value, or the refusal; and how many servers it opened.
 #[derive(Clone, Copy)]
-pub enum LookupAnswer {
-    Found(u32, usize),
-    Refused(Refusal, usize),
+pub struct LookupAnswer {
+    pub value: Result<u32, Refusal>,
+    pub opened: usize,
 }
 
 // A reply in document 01's numbers. Refusal 0 is acceptance; what an answer does not carry is 0.

@@ -1,43 +1,34 @@
 // Answers in document 01's numbers.
+#![tactic(auto, unfolding(crate::specs::Reply::number_of, crate::specs::Reply::check_number, crate::specs::Reply::reply_of_check, crate::specs::Reply::reply_of_server, crate::specs::Reply::reply_of_write, crate::specs::Reply::reply_of_delete, crate::specs::Reply::found_or, crate::specs::Reply::reply_of_lookup))]
+
 ghost use Rattle.std.specs.Prelude.{◌≡◌};
 ghost use Rattle.replies.specs.Reply.{refused, on_server, number_of, check_number, reply_of_check, reply_of_server, reply_of_write, reply_of_delete, reply_of_lookup};
 
-use crate::{Check, DeleteAnswer, LookupAnswer, Refusal, Reply, ServerAnswer, WriteAnswer};
+use crate::{LookupAnswer, Refusal, Reply, Written};
 
-fn refusal_number(refusal: Refusal) -> u32
-    ensures { result ≡ number_of refusal }
-{
-    match refusal {
-        Refusal::UnsoundTable => 1,
-        Refusal::OutOfRange => 2,
-        Refusal::NoSuchServer => 3,
-        Refusal::TooManyServers => 4,
-        Refusal::ShortMedium => 5,
-        Refusal::ServerFull => 6,
-        Refusal::NotBlank => 7,
-        Refusal::NotFound => 8,
-        Refusal::ExceedsFree => 9,
-        Refusal::Corrupt => 10,
-        Refusal::OtherTenant => 11,
-        Refusal::BadImage => 12,
-        Refusal::ShortDestination => 13,
+impl Refusal {
+    // The refusal's number.
+    pub fn number(self) -> u32
+        ensures { result ≡ number_of self }
+    {
+        self as u32
     }
 }
 
-pub fn check_number(check: Check) -> u32
+pub fn check_number(check: Result<(), Refusal>) -> u32
     ensures { result ≡ check_number check }
 {
     match check {
-        Check::Accepted => 0,
-        Check::Refused(refusal) => refusal_number(refusal),
+        Ok(()) => 0,
+        Err(refusal) => refusal.number(),
     }
 }
 
-fn refusal_reply(refusal: Refusal, opened: usize) -> Reply
+fn refused(refusal: Refusal, opened: usize) -> Reply
     ensures { result ≡ refused (number_of refusal) opened }
 {
     Reply {
-        refusal: refusal_number(refusal),
+        refusal: refusal.number(),
         server: 0,
         value: 0,
         opened,
@@ -45,7 +36,7 @@ fn refusal_reply(refusal: Refusal, opened: usize) -> Reply
     }
 }
 
-fn server_and_count(server: usize, invalidated: usize) -> Reply
+fn on_server(server: usize, invalidated: usize) -> Reply
     ensures { result ≡ on_server server invalidated }
 {
     Reply {
@@ -57,53 +48,53 @@ fn server_and_count(server: usize, invalidated: usize) -> Reply
     }
 }
 
-pub fn start_reply(answer: Check) -> Reply
-    ensures { result ≡ reply_of_check answer }
+pub fn check_reply(check: Result<(), Refusal>) -> Reply
+    ensures { result ≡ reply_of_check check }
 {
-    match answer {
-        Check::Accepted => server_and_count(0, 0),
-        Check::Refused(refusal) => refusal_reply(refusal, 0),
+    match check {
+        Ok(()) => on_server(0, 0),
+        Err(refusal) => refused(refusal, 0),
     }
 }
 
-pub fn server_reply(answer: ServerAnswer) -> Reply
-    ensures { result ≡ reply_of_server answer }
+pub fn server_reply(server: Result<usize, Refusal>) -> Reply
+    ensures { result ≡ reply_of_server server }
 {
-    match answer {
-        ServerAnswer::Server(server) => server_and_count(server, 0),
-        ServerAnswer::Refused(refusal) => refusal_reply(refusal, 0),
+    match server {
+        Ok(server) => on_server(server, 0),
+        Err(refusal) => refused(refusal, 0),
     }
 }
 
-pub fn write_reply(answer: WriteAnswer) -> Reply
-    ensures { result ≡ reply_of_write answer }
+pub fn write_reply(written: Result<Written, Refusal>) -> Reply
+    ensures { result ≡ reply_of_write written }
 {
-    match answer {
-        WriteAnswer::Written(server, invalidated) => server_and_count(server, invalidated),
-        WriteAnswer::Refused(refusal) => refusal_reply(refusal, 0),
+    match written {
+        Ok(written) => on_server(written.server, written.invalidated),
+        Err(refusal) => refused(refusal, 0),
     }
 }
 
-pub fn delete_reply(answer: DeleteAnswer) -> Reply
-    ensures { result ≡ reply_of_delete answer }
+pub fn delete_reply(invalidated: Result<usize, Refusal>) -> Reply
+    ensures { result ≡ reply_of_delete invalidated }
 {
-    match answer {
-        DeleteAnswer::Deleted(invalidated) => server_and_count(0, invalidated),
-        DeleteAnswer::Refused(refusal) => refusal_reply(refusal, 0),
+    match invalidated {
+        Ok(invalidated) => on_server(0, invalidated),
+        Err(refusal) => refused(refusal, 0),
     }
 }
 
 pub fn lookup_reply(answer: LookupAnswer) -> Reply
     ensures { result ≡ reply_of_lookup answer }
 {
-    match answer {
-        LookupAnswer::Found(value, opened) => Reply {
+    match answer.value {
+        Ok(value) => Reply {
             refusal: 0,
             server: 0,
             value,
-            opened,
+            opened: answer.opened,
             invalidated: 0,
         },
-        LookupAnswer::Refused(refusal, opened) => refusal_reply(refusal, opened),
+        Err(refusal) => refused(refusal, answer.opened),
     }
 }
