@@ -2,59 +2,51 @@
 #![tactic(auto)]
 
 ghost use Rattle.std.specs.Prelude.{◌≡◌};
-ghost use Rattle.table.specs.Parts.{table_of, Whole};
+ghost use Rattle.table.specs.Parts.{table_of};
 ghost use Rattle.replies.specs.Refusal.{first_of};
 ghost use Rattle.replies.specs.Reply.{check_number};
 ghost use Rattle.checks.specs.Ready.{ready_rows, asked_rows};
 
-use replies::{Check, Refusal};
-use table::{Columns, Shape};
+use replies::Refusal;
+use table::View;
 
 // The tests in the order of their rows. `outside` says whether an argument of the call is out of range, and `other` whether its id
 // is another tenant's.
-pub fn ready<'a>(
-    shape: Shape,
-    columns: Columns<'a>,
-    medium: &[u32],
-    outside: bool,
-    other: bool,
-) -> Check
-    requires { Whole columns }
-    ensures { check_number result ≡ first_of (ready_rows (table_of shape columns.entry) medium.now outside other) }
+#[tactic(auto, using(table::proofs::Soundness::sound_bounds), unfolding(crate::specs::Ready::ready_rows, crate::specs::Ready::short, replies::specs::Refusal::first_of, replies::specs::Reply::check_number, replies::specs::Reply::number_of))]
+pub fn ready(table: &View<'_>, medium: &[u32], outside: bool, other: bool) -> Result<(), Refusal>
+    ensures { check_number result ≡ first_of (ready_rows (table_of table.now) medium.now outside other) }
 {
-    let capacity = shape.capacity;
-    let count = shape.count;
-    if !table::is_sound(shape, columns) {
-        return Check::Refused(Refusal::UnsoundTable);
+    if !table.is_sound() {
+        return Err(Refusal::UnsoundTable);
     }
     if outside {
-        return Check::Refused(Refusal::OutOfRange);
+        return Err(Refusal::OutOfRange);
     }
     if other {
-        return Check::Refused(Refusal::OtherTenant);
+        return Err(Refusal::OtherTenant);
     }
+    let count = table.shape.count;
     if count == 0 {
-        return Check::Refused(Refusal::NoSuchServer);
+        return Err(Refusal::NoSuchServer);
     }
-    if medium.len() < medium::server_at(capacity as usize, count) {
-        return Check::Refused(Refusal::ShortMedium);
+    if medium.len() < medium::server_at(table.shape.capacity as usize, count) {
+        return Err(Refusal::ShortMedium);
     }
-    Check::Accepted
+    Ok(())
 }
 
 // The tests of a call that a tenant makes for an id. `outside` says whether another argument of the call is out of range.
-pub fn asked<'a>(
-    shape: Shape,
-    columns: Columns<'a>,
+#[tactic(auto, unfolding(crate::specs::Ready::asked_rows))]
+pub fn asked(
+    table: &View<'_>,
     medium: &[u32],
     tenant: u32,
     id: u32,
     outside: bool,
-) -> Check
-    requires { Whole columns }
-    ensures { check_number result ≡ first_of (asked_rows (table_of shape columns.entry) medium.now tenant id outside) }
+) -> Result<(), Refusal>
+    ensures { check_number result ≡ first_of (asked_rows (table_of table.now) medium.now tenant id outside) }
 {
     let any = outside | tenants::out_of_range(tenant, id);
     let other = tenants::of_another(tenant, id);
-    ready(shape, columns, medium, any, other)
+    ready(table, medium, any, other)
 }

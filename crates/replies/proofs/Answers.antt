@@ -33,12 +33,12 @@ number-not-zero BadImage e = omega arith
 number-not-zero ShortDestination e = omega arith
 
 -- what a check that is matched on says of the rows it stands for
-module _ (rows : List Row) {a : Result (Unit {0}) Refusal} (e : check_number a ≡ first_of rows) where
+module _ {A : Type 0} (rows : List Row) {a : Result A Refusal} (e : check_number a ≡ first_of rows) where
   pub check-refused : {r : Refusal} → a ≡ Err r → number_of r ≡ first_of rows
   unfolding check_number
   check-refused f = sym (ap check_number f) ∙ e
 
-  pub check-accepted : {u : Unit {0}} → a ≡ Ok u → first_of rows ≡ 0
+  pub check-accepted : {u : A} → a ≡ Ok u → first_of rows ≡ 0
   unfolding check_number
   check-accepted f = sym e ∙ ap check_number f
 
@@ -62,7 +62,7 @@ pub plan-refused : (rows : List Row) (r : Refusal) (k : ℕ) → number_of r ≡
 plan-refused rows r k e = (e, kept rows r e k 0)
 
 -- the answer of start is what its test says
-pub check-reply : (rows : List Row) (a : Result (Unit {0}) Refusal) → check_number a ≡ first_of rows → reply_of_check a ≡ reply_by rows accepted
+pub check-reply : {A : Type 0} (rows : List Row) (a : Result A Refusal) → check_number a ≡ first_of rows → reply_of_check a ≡ reply_by rows accepted
 unfolding check_number reply_of_check
 check-reply rows (Ok _) e = sym (reply-done rows (sym e) accepted)
 check-reply rows (Err r) e = reply-refused rows r e accepted

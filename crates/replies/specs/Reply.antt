@@ -39,11 +39,12 @@ number_of OtherTenant = 11
 number_of BadImage = 12
 number_of ShortDestination = 13
 
-unfoldable pub check_number : Result (Unit {0}) Refusal → ℕ
+-- of what is accepted or refused, whatever else its acceptance carries
+unfoldable pub check_number : {A : Type 0} → Result A Refusal → ℕ
 check_number (Ok _) = 0
 check_number (Err r) = number_of r
 
-unfoldable pub reply_of_check : Result (Unit {0}) Refusal → Reply
+unfoldable pub reply_of_check : {A : Type 0} → Result A Refusal → Reply
 reply_of_check (Ok _) = accepted
 reply_of_check (Err r) = refused (number_of r) 0
 

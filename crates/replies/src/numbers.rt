@@ -15,11 +15,11 @@ impl Refusal {
     }
 }
 
-pub fn check_number(check: Result<(), Refusal>) -> u32
-    ensures { result ≡ check_number check }
+pub fn check_number<T>(check: &Result<T, Refusal>) -> u32
+    ensures { result ≡ check_number check.now }
 {
     match check {
-        Ok(()) => 0,
+        Ok(_) => 0,
         Err(refusal) => refusal.number(),
     }
 }
@@ -48,12 +48,12 @@ fn on_server(server: usize, invalidated: usize) -> Reply
     }
 }
 
-pub fn check_reply(check: Result<(), Refusal>) -> Reply
-    ensures { result ≡ reply_of_check check }
+pub fn check_reply<T>(check: &Result<T, Refusal>) -> Reply
+    ensures { result ≡ reply_of_check check.now }
 {
     match check {
-        Ok(()) => on_server(0, 0),
-        Err(refusal) => refused(refusal, 0),
+        Ok(_) => on_server(0, 0),
+        Err(refusal) => refused(*refusal, 0),
     }
 }
 

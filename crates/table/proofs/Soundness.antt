@@ -96,6 +96,10 @@ sound-facts t e = record {
   server = λ k l. server-facts t k (all_below-out (server_sound t) t.count (search (and_l, and_r)) k l);
 }
 
+-- what the places of the words hang on
+pub sound_bounds : (t : Table) → sound t ≡ true → (t.capacity ≤ 65536) × (t.count ≤ 256)
+sound_bounds t e = let s = sound-facts t e in (s.high, s.few)
+
 -- as a loop over the servers shows it
 pub tested-sound : (t : Table) → in_range t.capacity t.salt ≡ true → t.count ≤ 256 → in_bounds t.counters ≡ true → all_below (server_sound t) t.count ≡ true → sound t ≡ true
 unfolding sound
