@@ -5,12 +5,7 @@ use Rattle.medium.specs.Entry.{live}
 use Rattle.table.specs.declared.Table.{Table}
 use Rattle.table.specs.Parts.{used_of, reads}
 use Rattle.search.specs.declared.SearchAnswer.{SearchAnswer}
-use Rattle.search.specs.declared.SearchAnswer.TheVariants.{At, Nowhere}
-
--- an entry by its server and its number there
-pub record Place : Type 0 where
-  pub server : ℕ
-  pub entry : ℕ
+pub use Rattle.search.specs.declared.Place.{Place}
 
 pub record Search : Type 0 where
   pub opened : List ℕ
@@ -34,9 +29,5 @@ unfoldable pub search_for : Table → List ℕ → ℕ → Search
 search_for t m id = search_below t m id t.count
 
 -- what the running search answers: the entry met, if any, and how many servers it opened
-unfoldable pub answer_at : ℕ → Option Place → SearchAnswer
-answer_at opened None = Nowhere opened
-answer_at opened (Some p) = At p.server p.entry opened
-
 unfoldable pub answer_of : Search → SearchAnswer
-answer_of s = answer_at (length s.opened) s.met
+answer_of s = record { met = s.met; opened = length s.opened }
