@@ -25,7 +25,8 @@ use Rattle.replies.specs.declared.Reply.{Reply}
 use Rattle.replies.specs.Reply.{refused, reply_by}
 use Rattle.replies.proofs.Refusals.{settle-yes, settle-no}
 use Rattle.replies.proofs.Answers.{reply-done}
-use Rattle.search.specs.Search.{Place, Search, last_live, opening, search_below, search_for}
+use Rattle.search.specs.declared.Place.{Place}
+use Rattle.search.specs.Search.{Search, last_live, opening, search_below, search_for}
 use Rattle.search.specs.Opened.{lowest, opens}
 use Rattle.checks.specs.Ready.{ready_rows, asked_rows, short}
 use Rattle.lookup.specs.Lookup.{lookup_rows, met_reply, lookup_reply}

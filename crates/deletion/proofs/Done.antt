@@ -26,7 +26,8 @@ use Rattle.replies.proofs.Refusals.{settle-yes, first-later, first-earlier, pass
 use Rattle.replies.proofs.Answers.{number-not-zero, kept, reply-refused, reply-done}
 use Rattle.checks.specs.Ready.{asked_rows}
 use Rattle.checks.proofs.Passed.{asked-numbered}
-use Rattle.search.specs.Search.{search_for, Place}
+use Rattle.search.specs.declared.Place.{Place}
+use Rattle.search.specs.Search.{search_for}
 use Rattle.search.proofs.Searches.{met_some, met-none}
 use Rattle.deletion.specs.Deletion.{is_met, delete_rows, delete_marks, delete_reply, delete_some_medium}
 

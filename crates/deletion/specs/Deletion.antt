@@ -8,7 +8,8 @@ use Rattle.replies.specs.Refusal.{Row, ◌when◌, settle}
 use Rattle.replies.specs.declared.Reply.{Reply}
 use Rattle.replies.specs.Reply.{on_server, reply_by}
 use Rattle.checks.specs.Ready.{asked_rows}
-use Rattle.search.specs.Search.{Place, search_for}
+use Rattle.search.specs.declared.Place.{Place}
+use Rattle.search.specs.Search.{search_for}
 use Rattle.invalidation.specs.Marks.{marks_from}
 
 -- the search meets an entry

@@ -30,7 +30,8 @@ use Rattle.replies.specs.declared.Reply.{Reply}
 use Rattle.replies.specs.Reply.{refused, reply_by}
 use Rattle.replies.proofs.Refusals.{settle-yes, settle-no, numbered}
 use Rattle.checks.specs.Ready.{short, ready_rows, asked_rows}
-use Rattle.search.specs.Search.{Place, search_for}
+use Rattle.search.specs.declared.Place.{Place}
+use Rattle.search.specs.Search.{search_for}
 use Rattle.search.proofs.Searches.{met_some, met-none}
 use Rattle.planning.specs.WriteRows.{target}
 use Rattle.history.specs.Call.{compared}

@@ -23,7 +23,8 @@ use Rattle.replies.specs.Reply.{accepted}
 use Rattle.replies.proofs.Refusals.{settle-yes, settle-no}
 use Rattle.replies.proofs.Answers.{reply-done}
 use Rattle.checks.specs.Ready.{short}
-use Rattle.search.specs.Search.{Place, search_for}
+use Rattle.search.specs.declared.Place.{Place}
+use Rattle.search.specs.Search.{search_for}
 use Rattle.deletion.specs.Deletion.{is_met, delete_rows, delete_burns, delete_some_medium}
 use Rattle.planning.specs.WriteRows.{target, write_rows}
 use Rattle.writing.specs.Writing.{write_burns, write_some_medium}

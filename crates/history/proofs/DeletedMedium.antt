@@ -15,7 +15,7 @@ use Rattle.lists.proofs.Tests.{by_bool, iff-eq, except}
 use Rattle.medium.specs.Word.{deleted}
 use Rattle.medium.specs.Entry.{entry_words, entry_at, bears}
 use Rattle.medium.specs.Burn.{Burn, burn_all, marks_over, invalidations}
-use Rattle.search.specs.Search.{Place}
+use Rattle.search.specs.declared.Place.{Place}
 use Rattle.history.specs.Beam.{Beam, dark}
 use Rattle.history.specs.Ledger.{Event, removed, used_by}
 use Rattle.history.proofs.Strikes.{struck, strike-whole}

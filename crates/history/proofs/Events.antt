@@ -11,7 +11,7 @@ use lib.ListN.{length}
 use lib.Dec.{eqb}
 use borrow.Author.Tests.{not-true, eqb-true, eqb-false, eq-eqb, ne_eqb}
 use Rattle.lists.proofs.Tests.{by_bool, and_l, and_r}
-use Rattle.search.specs.Search.{Place}
+use Rattle.search.specs.declared.Place.{Place}
 use Rattle.history.specs.Ledger.{Event, wrote, removed, spent, Version, used_by, last_write_of}
 use Rattle.history.specs.Demand3.{untouched, LastWrite}
 

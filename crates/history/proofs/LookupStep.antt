@@ -22,7 +22,8 @@ use Rattle.table.specs.Parts.{reads}
 use Rattle.replies.specs.Refusal.{Row, first_of}
 use Rattle.replies.specs.Reply.{refused, reply_by}
 use Rattle.replies.proofs.Refusals.{settle-yes}
-use Rattle.search.specs.Search.{Place, search_for}
+use Rattle.search.specs.declared.Place.{Place}
+use Rattle.search.specs.Search.{search_for}
 use Rattle.checks.specs.Ready.{short, ready_rows, asked_rows}
 use Rattle.lookup.specs.Lookup.{lookup_rows, met_reply, lookup_reply, lookup_table}
 use Rattle.search.specs.Opened.{lowest, opens}

@@ -17,7 +17,7 @@ use Rattle.medium.proofs.Places.{entry_in, entry-apart}
 use Rattle.medium.proofs.Entries.{bears-i, bears-id, bears-mark, live-i, live-used, live-bears}
 use Rattle.medium.proofs.Burns.{mark_burn, address-in, word_in, burn-in, invalidations-last}
 use Rattle.medium.proofs.Marks.{MarkOf, Final, marks-out, marks-in, marks-last}
-use Rattle.search.specs.Search.{Place}
+use Rattle.search.specs.declared.Place.{Place}
 use Rattle.history.specs.Beam.{Beam}
 use Rattle.history.specs.Ledger.{Event, used_by}
 use Rattle.history.proofs.Strikes.{struck, length-struck, strike-off, Burnable, strike-all, strike-order}

@@ -23,7 +23,8 @@ use Rattle.replies.specs.declared.Reply.{Reply}
 use Rattle.replies.specs.Reply.{accepted, reply_by}
 use Rattle.replies.proofs.Refusals.{settle-either}
 use Rattle.checks.proofs.Passed.{asked-tests}
-use Rattle.search.specs.Search.{Place, search_for}
+use Rattle.search.specs.declared.Place.{Place}
+use Rattle.search.specs.Search.{search_for}
 use Rattle.lookup.specs.Lookup.{lookup_rows, met_reply, lookup_reply}
 use Rattle.deletion.proofs.Done.{delete-ready}
 use Rattle.recovery.specs.Recovery.{recover_reply}

@@ -8,7 +8,7 @@ use native.Mathlib.Omega.{arith}
 use lib.Dec.{eqb}
 use borrow.Author.Tests.{eqb-true, eqb-false}
 use Rattle.lists.proofs.Tests.{by_bool}
-use Rattle.search.specs.Search.{Place}
+use Rattle.search.specs.declared.Place.{Place}
 
 -- entry j of server k comes at or before a place
 pub record Upto (k j : ℕ) (p : Place) : Type 0 where

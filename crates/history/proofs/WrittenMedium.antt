@@ -18,7 +18,7 @@ use Rattle.medium.specs.Word.{blank}
 use Rattle.medium.specs.Entry.{entry_words, server_at, entry_at, mark_at, bears, blank_run}
 use Rattle.medium.proofs.Places.{entry_in, entry-apart}
 use Rattle.medium.proofs.Entries.{bears-i, bears-id, bears-cong, blank-not}
-use Rattle.search.specs.Search.{Place}
+use Rattle.search.specs.declared.Place.{Place}
 use Rattle.history.specs.Ledger.{Event, wrote, spent, used_by}
 use Rattle.history.proofs.Tops.{Upto, Top, TopAt, top-cong}
 use Rattle.history.proofs.Events.{place_of, EachWrite, each-wrote, each_on, spent-no-write, Takes, wrote-takes, spent-takes, used-self, used-other, used_grows, used-new, wrote_self, wrote-other, spent-placed}

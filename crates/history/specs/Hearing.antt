@@ -2,7 +2,8 @@
 -- crashed call is told by server and entry of what a lookup meets after the recover, and never by a value.
 use Rattle.std.specs.Prelude.{ℕ, Bool, false, not, ◌&&◌, List, [], ◌∷◌, eqb, Option, None, Some}
 use Rattle.table.specs.Parts.{used_of}
-use Rattle.search.specs.Search.{Place, search_for}
+use Rattle.search.specs.declared.Place.{Place}
+use Rattle.search.specs.Search.{search_for}
 use Rattle.deletion.specs.Deletion.{is_met}
 use Rattle.planning.specs.WriteRows.{target}
 use Rattle.recovery.specs.Recovery.{touched}

@@ -20,7 +20,8 @@ use Rattle.replies.specs.declared.Reply.{Reply}
 use Rattle.replies.specs.Refusal.{first_of}
 use Rattle.replies.specs.Reply.{reply_by}
 use Rattle.replies.proofs.Refusals.{settle-yes, settle-no}
-use Rattle.search.specs.Search.{Place, search_for}
+use Rattle.search.specs.declared.Place.{Place}
+use Rattle.search.specs.Search.{search_for}
 use Rattle.lookup.specs.Lookup.{lookup_rows, met_reply, lookup_reply, lookup_table}
 
 pub opened-none : (t : Table) (tenant : ℕ) → with_opened t tenant 0 ≡ t

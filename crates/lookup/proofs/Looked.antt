@@ -1,9 +1,9 @@
 -- The last equations of lookup.
 -- Assumes nothing.
-use Prim.Native.Nat.{ℕ}
-use mathlib.Core.Path.{◌≡◌, refl, sym, ap₂, ◌∙◌}
+use Prim.Native.Nat.{ℕ, ◌+◌, ◌<◌}
+use mathlib.Core.Path.{◌≡◌, sym, ap, ap₂, ◌∙◌}
 use mathlib.Core.List.{List}
-use Rattle.std.specs.Prelude.{Option, None, Some}
+use Rattle.std.specs.Prelude.{None, Some}
 use native.Mathlib.Omega.{arith}
 use lib.ListN.{length}
 use Rattle.table.specs.declared.Table.{Table}
@@ -12,48 +12,48 @@ use Rattle.replies.specs.Refusal.{first_of}
 use Rattle.replies.specs.Reply.{refused, number_of}
 use Rattle.replies.proofs.Answers.{reply-refused, reply-done}
 use Rattle.search.specs.declared.SearchAnswer.{SearchAnswer}
-use Rattle.search.specs.declared.SearchAnswer.TheVariants.{At, Nowhere}
-use Rattle.search.specs.Search.{Place, Search, search_for, answer_at, answer_of}
+use Rattle.search.specs.declared.Place.{Place}
+use Rattle.search.specs.Search.{search_for, answer_of}
+use Rattle.medium.specs.Entry.{entry_at, Inside}
+use Rattle.medium.proofs.Places.{entry-inside}
+use Rattle.medium.proofs.Entries.{live-used}
+use Rattle.table.specs.Parts.{used_of}
+use Rattle.search.proofs.Finding.{each-inside}
+use Rattle.search.proofs.Searches.{met_some}
+use Rattle.lookup.proofs.Passed.{lookup-accepted}
 use Rattle.lookup.specs.Lookup.{lookup_rows, met_reply, lookup_reply}
 
 -- what a search that answers this met, and how many servers it opened
-module _ (s : Search) {f : SearchAnswer} (e : f ≡ answer_of s) where
-  pub answer-none : (n : ℕ) → f ≡ Nowhere n → (s.met ≡ None) × (length s.opened ≡ n)
-  unfolding answer_of answer_at
-  answer-none n g = go s.met refl
-    where
-      go : (o : Option Place) → s.met ≡ o → (s.met ≡ None) × (length s.opened ≡ n)
-      go None q = let h : f ≡ Nowhere (length s.opened) = rw q at e in (q, cc)
-      go (Some p) q = let h : f ≡ At p.server p.entry (length s.opened) = rw q at e in let z : ◌≡◌ {A = ℕ} 0 1 = cc in absurd (omega arith)
+module _ (t : Table) (m : List ℕ) (tenant id : ℕ) (z : first_of (lookup_rows t m tenant id) ≡ 0) {a : SearchAnswer} (e : a ≡ answer_of (search_for t m id)) where
+  -- what it met, and how many servers it opened
+  answered : met_reply t.capacity m a.opened a.met ≡ lookup_reply t m tenant id
+  unfolding answer_of lookup_reply
+  answered =
+      ap₂ (met_reply t.capacity m) (ap (λ (f : SearchAnswer). f.opened) e) (ap (λ (f : SearchAnswer). f.met) e)
+      ∙ sym (reply-done (lookup_rows t m tenant id) z _)
 
-  pub answer-some : (k j n : ℕ) → f ≡ At k j n → (s.met ≡ Some (record { server = k; entry = j })) × (length s.opened ≡ n)
-  unfolding answer_of answer_at
-  answer-some k j n g = go s.met refl
-    where
-      go : (o : Option Place) → s.met ≡ o → (s.met ≡ Some (record { server = k; entry = j })) × (length s.opened ≡ n)
-      go None q = let h : f ≡ Nowhere (length s.opened) = rw q at e in let z : ◌≡◌ {A = ℕ} 0 1 = cc in absurd (omega arith)
-      go (Some p) q =
-          let h : f ≡ At p.server p.entry (length s.opened) = rw q at e in
-          let a : p.server ≡ k = cc in
-          let b : p.entry ≡ j = cc in
-          (q ∙ ap₂ (λ (x y : ℕ). Some (record { server = x; entry = y })) a b, cc)
-
-module _ (t : Table) (m : List ℕ) (tenant id : ℕ) (z : first_of (lookup_rows t m tenant id) ≡ 0) where
   -- lookup met nothing, or this entry
-  pub looked-none : {r : SearchAnswer} (n : ℕ) → r ≡ answer_of (search_for t m id) → r ≡ Nowhere n → refused 8 n ≡ lookup_reply t m tenant id
-  unfolding lookup_reply met_reply
-  looked-none n e g =
-      let f = answer-none (search_for t m id) e n g in
-      sym (reply-done (lookup_rows t m tenant id) z _ ∙ ap₂ (met_reply t.capacity m) f.1 f.0)
+  pub looked-none : a.met ≡ None → refused 8 a.opened ≡ lookup_reply t m tenant id
+  unfolding met_reply
+  looked-none f = ap (met_reply t.capacity m a.opened) (sym f) ∙ answered
 
-  pub looked-some : {r : SearchAnswer} (k j n : ℕ) → r ≡ answer_of (search_for t m id) → r ≡ At k j n
-      → met_reply t.capacity m n (Some (record { server = k; entry = j })) ≡ lookup_reply t m tenant id
-  unfolding lookup_reply
-  looked-some k j n e g =
-      let f = answer-some (search_for t m id) e k j n g in
-      sym (reply-done (lookup_rows t m tenant id) z _ ∙ ap₂ (met_reply t.capacity m) f.1 f.0)
+  pub looked-some : (p : Place) → a.met ≡ Some p → met_reply t.capacity m a.opened (Some p) ≡ lookup_reply t m tenant id
+  looked-some p f = ap (met_reply t.capacity m a.opened) (sym f) ∙ answered
+
+  -- the entry that it met is a used one, and its server lies inside the medium
+  pub met-place : (p : Place) → a.met ≡ Some p → Inside t.capacity p.server m × (p.entry < t.capacity)
+  unfolding answer_of
+  met-place p f =
+      let i = (lookup-accepted t m tenant id z).inside in
+      let g = met_some t m id p (sym (ap (λ (f : SearchAnswer). f.met) e) ∙ f) in
+      let u = live-used t.capacity (used_of t p.server) m id p.server p.entry g.is_live in
+      (each-inside t.capacity t.count p.server (used_of t) m i g.below, omega (arith, u, i.fits p.server g.below))
 
 -- a lookup that its tests refuse
 pub lookup-refused : (t : Table) (m : List ℕ) (tenant id : ℕ) (r : Refusal) → number_of r ≡ first_of (lookup_rows t m tenant id) → refused (number_of r) 0 ≡ lookup_reply t m tenant id
 unfolding lookup_reply
 lookup-refused t m tenant id r e = reply-refused (lookup_rows t m tenant id) r e _
+
+-- the value word of an entry lies inside the medium
+pub value_inside : (capacity server entry : ℕ) (m : List ℕ) → Inside capacity server m → entry < capacity → entry_at capacity server entry + 1 < length m
+value_inside capacity server entry m i l = entry-inside capacity server entry 1 m i l (omega arith)

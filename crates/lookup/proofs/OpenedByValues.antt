@@ -24,7 +24,8 @@ use Rattle.table.proofs.Soundness.{sound-facts}
 use Rattle.replies.specs.Refusal.{first_of}
 use Rattle.replies.specs.Reply.{refused, found}
 use Rattle.replies.proofs.Refusals.{reply-same}
-use Rattle.search.specs.Search.{Place, Search, last_live, opening, search_below, search_for}
+use Rattle.search.specs.declared.Place.{Place}
+use Rattle.search.specs.Search.{Search, last_live, opening, search_below, search_for}
 use Rattle.checks.specs.Ready.{short}
 use Rattle.checks.proofs.Passed.{asked-same}
 use Rattle.lookup.specs.Lookup.{lookup_rows, met_reply, lookup_reply}

@@ -13,7 +13,8 @@ use Rattle.table.specs.declared.Table.{Table}
 use Rattle.replies.specs.declared.Reply.{Reply}
 use Rattle.replies.specs.Reply.{reply_by}
 use Rattle.replies.proofs.Refusals.{settle-either}
-use Rattle.search.specs.Search.{Place, search_for}
+use Rattle.search.specs.declared.Place.{Place}
+use Rattle.search.specs.Search.{search_for}
 use Rattle.lookup.specs.Lookup.{lookup_rows, met_reply, lookup_reply}
 
 pub record Plain (r : Reply) : Type 0 where

@@ -20,7 +20,8 @@ use Rattle.table.specs.Sound.{sound}
 use Rattle.table.proofs.Soundness.{sound-facts}
 use Rattle.replies.specs.Refusal.{first_of}
 use Rattle.checks.proofs.Passed.{asked-tests}
-use Rattle.search.specs.Search.{Place, search_for}
+use Rattle.search.specs.declared.Place.{Place}
+use Rattle.search.specs.Search.{search_for}
 use Rattle.lookup.specs.Lookup.{lookup_rows}
 use Rattle.search.specs.Opened.{lowest, opens}
 use Rattle.lookup.proofs.Passed.{lookup-accepted}

@@ -11,7 +11,8 @@ use Rattle.replies.specs.Refusal.{Row}
 use Rattle.replies.specs.declared.Reply.{Reply}
 use Rattle.replies.specs.Reply.{refused, found, reply_by}
 use Rattle.checks.specs.Ready.{asked_rows}
-use Rattle.search.specs.Search.{Place, search_for}
+use Rattle.search.specs.declared.Place.{Place}
+use Rattle.search.specs.Search.{search_for}
 
 -- the caller's tenant, then the id
 unfoldable pub lookup_rows : Table → List ℕ → ℕ → ℕ → List Row

@@ -1,91 +1,70 @@
 // Lookup: the value of an id, or why there is none, and how many servers were opened, which the table counts for the tenant.
 #![tactic(auto)]
 
-ghost use Rattle.std.specs.Prelude.{◌≡◌, true, ◌<◌, Some};
+ghost use Rattle.std.specs.Prelude.{◌≡◌, ℕ, ◌<◌, Some};
 ghost use Rattle.medium.specs.Entry.{Inside};
-ghost use Rattle.table.specs.Parts.{table_of, Whole};
-ghost use Rattle.replies.specs.Reply.{reply_of_lookup};
+ghost use Rattle.table.specs.Parts.{table_of};
+ghost use Rattle.replies.specs.Reply.{found_or, reply_of_lookup};
 ghost use Rattle.lookup.specs.Lookup.{met_reply, lookup_reply, lookup_table};
 
 use draws::Steps;
-use replies::{Check, LookupAnswer, Refusal};
-use search::SearchAnswer;
-use table::{Columns, Shape, Table};
+use replies::{LookupAnswer, Refusal};
+use search::Place;
+use table::{Table, View};
 
-// The answer of lookup, and the table after it.
-#[derive(Clone, Copy)]
-pub struct LookedUp {
-    pub answer: LookupAnswer,
-    pub table: Table,
-}
-
-// The answer for the entry that a lookup meets: its value, or a refusal where its value word has another tag.
-pub fn met(
-    capacity: u32,
-    medium: &[u32],
-    server: usize,
-    entry: usize,
-    opened: usize,
-) -> LookupAnswer
-    requires inside { Inside capacity server medium.now }
-    requires lt_capacity { entry < capacity }
-    ensures { reply_of_lookup result ≡ met_reply capacity medium.now opened (Some (record { server = server; entry = entry })) }
+// What an entry that a lookup meets has: its value, or a refusal where its value word has another tag.
+#[tactic(auto, using(crate::proofs::Looked::value_inside), unfolding(crate::specs::Lookup::met_reply, replies::specs::Reply::found_or, replies::specs::Reply::number_of))]
+pub fn met(capacity: u32, medium: &[u32], place: Place) -> Result<u32, Refusal>
+    requires inside { Inside capacity place.server medium.now }
+    requires lt_capacity { place.entry < capacity }
+    ensures { (opened : ℕ) → found_or result opened ≡ met_reply capacity medium.now opened (Some place) }
 {
-    let word = medium[medium::entry_at(capacity as usize, server, entry) + medium::VALUE_PLACE];
+    let at = medium::entry_at(capacity as usize, place.server, place.entry);
+    let word = medium[at + medium::VALUE_PLACE];
     if words::tag_of(word) == 1 {
-        LookupAnswer::Found(words::content_of(word), opened)
+        Ok(words::content_of(word))
     } else {
-        LookupAnswer::Refused(Refusal::Corrupt, opened)
+        Err(Refusal::Corrupt)
     }
 }
 
-// Looks an id up for a tenant on a table whose columns are borrowed. The caller counts the servers that were opened.
-pub fn lookup_in<'a>(
-    shape: Shape,
-    columns: Columns<'a>,
+// Looks an id up for a tenant on a table that is lent. The caller counts the servers that were opened.
+pub fn lookup_in(
+    table: &View<'_>,
     steps: &Steps,
     medium: &[u32],
     tenant: u32,
     id: u32,
 ) -> LookupAnswer
-    requires whole { Whole columns }
-    ensures { reply_of_lookup result ≡ lookup_reply (table_of shape columns.entry) medium.now tenant id }
+    ensures { reply_of_lookup result ≡ lookup_reply (table_of table.now) medium.now tenant id }
 {
-    let capacity = shape.capacity;
-    let check = checks::asked(shape, columns, medium, tenant, id, false);
-    if let Check::Refused(refusal) = check {
-        return LookupAnswer::Refused(refusal, 0);
+    if let Err(refusal) = checks::asked(table, medium, tenant, id, false) {
+        return LookupAnswer {
+            value: Err(refusal),
+            opened: 0,
+        };
     }
-    let answer = search::find(shape, columns, steps, medium, id);
-    match answer {
-        SearchAnswer::Nowhere(opened) => LookupAnswer::Refused(Refusal::NotFound, opened),
-        SearchAnswer::At(server, entry, opened) => met(capacity, medium, server, entry, opened),
+    let answer = search::find(table, steps, medium, id);
+    let opened = answer.opened;
+    match answer.met {
+        None => LookupAnswer {
+            value: Err(Refusal::NotFound),
+            opened,
+        },
+        Some(place) => LookupAnswer {
+            value: met(table.shape.capacity, medium, place),
+            opened,
+        },
     }
 }
 
-// Looks an id up for a tenant on a table by value.
-pub fn lookup(table: Table, medium: &[u32], tenant: u32, id: u32) -> LookedUp
-    ensures reply { reply_of_lookup result.answer ≡ lookup_reply table medium.now tenant id }
-    ensures table { result.table ≡ lookup_table table medium.now tenant id }
+// Looks an id up for a tenant.
+#[tactic(auto, using(replies::proofs::Distinct::lookup_opened), unfolding(crate::specs::Lookup::lookup_table))]
+pub fn lookup(table: &mut Table, medium: &[u32], tenant: u32, id: u32) -> LookupAnswer
+    ensures reply { reply_of_lookup result ≡ lookup_reply table.old medium.now tenant id }
+    ensures table { table.new ≡ lookup_table table.old medium.now tenant id }
 {
-    let shape = Shape {
-        capacity: table.capacity,
-        salt: table.salt,
-        count: table.count,
-    };
-    let steps = Steps::new();
-    let columns: Columns = [
-        &table.weights,
-        &table.used,
-        &table.numerators,
-        &table.denominators,
-        &table.counters,
-    ];
-    let answer = lookup_in(shape, columns, &steps, medium, tenant, id);
-    let reply = replies::lookup_reply(answer);
-    let next = upkeep::with_opened(table, tenant, reply.opened);
-    LookedUp {
-        answer,
-        table: next,
-    }
+    let answer = lookup_in(&table.view(), &Steps::new(), medium, tenant, id);
+    upkeep::add_opened(table, tenant, answer.opened);
+    answer
 }

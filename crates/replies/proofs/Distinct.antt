@@ -97,6 +97,10 @@ unfolding found_or
 opened-of (Ok v) n = refl
 opened-of (Err r) n = refl
 
+pub lookup_opened : (a : LookupAnswer) → (reply_of_lookup a).opened ≡ a.opened
+unfolding reply_of_lookup
+lookup_opened a = opened-of a.value a.opened
+
 pub lookups-apart : (a b : LookupAnswer) → reply_of_lookup a ≡ reply_of_lookup b → a ≡ b
 unfolding reply_of_lookup
 lookups-apart a b e =

@@ -17,7 +17,8 @@ use Rattle.medium.specs.Entry.{live}
 use Rattle.medium.proofs.Entries.{live-used}
 use Rattle.table.specs.declared.Table.{Table}
 use Rattle.table.specs.Parts.{table_by, used_of, read_p, reads}
-use Rattle.search.specs.Search.{Place, Search, last_live, opening, search_below, search_for}
+use Rattle.search.specs.declared.Place.{Place}
+use Rattle.search.specs.Search.{Search, last_live, opening, search_below, search_for}
 use Rattle.search.specs.Opened.{Met, NoneMet, lowest, opens, Opened}
 
 -- of a table the read rule sees the salt and ReadP alone

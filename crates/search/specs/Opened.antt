@@ -4,7 +4,8 @@ use Rattle.lists.specs.Below.{nth, downward, count_below}
 use Rattle.medium.specs.Entry.{server_at, live}
 use Rattle.table.specs.declared.Table.{Table}
 use Rattle.table.specs.Parts.{weight_of, used_of, read_p, reads}
-use Rattle.search.specs.Search.{Place, search_for}
+use Rattle.search.specs.declared.Place.{Place}
+use Rattle.search.specs.Search.{search_for}
 
 -- the entry met: on the highest readable server that has a live entry of the id, the highest-numbered one
 pub record Met (t : Table) (m : List ℕ) (id : ℕ) (p : Place) : Type 0 where

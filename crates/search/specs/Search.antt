@@ -5,7 +5,7 @@ use Rattle.medium.specs.Entry.{live}
 use Rattle.table.specs.declared.Table.{Table}
 use Rattle.table.specs.Parts.{used_of, reads}
 use Rattle.search.specs.declared.SearchAnswer.{SearchAnswer}
-pub use Rattle.search.specs.declared.Place.{Place}
+use Rattle.search.specs.declared.Place.{Place}
 
 pub record Search : Type 0 where
   pub opened : List ℕ
