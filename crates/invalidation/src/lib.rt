@@ -1,56 +1,42 @@
 // The invalidations of a write and of a delete: a mark on each live entry of an id, server by server.
 #![tactic(auto)]
 
-ghost use Rattle.std.specs.Prelude.{◌≡◌, true, ◌<◌, length, take};
+ghost use Rattle.std.specs.Prelude.{◌≡◌, ◌<◌, length, take};
 ghost use Rattle.limits.specs.Limits.{content_range};
 ghost use Rattle.lists.specs.Below.{nth};
 ghost use Rattle.medium.specs.Entry.{AllInside};
 ghost use Rattle.medium.specs.Burn.{burn_all, invalidations};
-ghost use Rattle.table.specs.Parts.{column, table_of, Whole};
+ghost use Rattle.table.specs.Parts.{table_of};
 ghost use Rattle.invalidation.specs.Marks.{marks_from};
 
 use draws::Steps;
-use placement::Fraction;
-use table::{Columns, Shape};
+use table::View;
 
 // Burns a mark of this content on each live entry of an id on the readable servers from `from` up, as many as `burns` allow, and
 // answers how many such entries there are.
-pub fn invalidate<'a>(
+pub fn invalidate(
     medium: &mut [u32],
-    shape: Shape,
-    columns: Columns<'a>,
+    table: &View<'_>,
     steps: &Steps,
     id: u32,
     from: usize,
     content: u32,
     burns: usize,
 ) -> usize
-    requires whole { Whole columns }
-    requires all_inside { AllInside shape.capacity shape.count (nth (column columns 1)) medium.old }
+    requires all_inside { AllInside table.now.shape.capacity table.now.shape.count (nth table.now.used.now) medium.old }
     requires content_lt_content_range { content < content_range }
-    ensures count { result ≡ length (marks_from (table_of shape columns.entry) medium.old id from) }
+    ensures count { result ≡ length (marks_from (table_of table.now) medium.old id from) }
     ensures words { medium.new
-        ≡ burn_all medium.old (take burns (invalidations content (marks_from (table_of shape columns.entry) medium.old id from))) }
+        ≡ burn_all medium.old (take burns (invalidations content (marks_from (table_of table.now) medium.old id from))) }
 {
-    let capacity = shape.capacity;
-    let salt = shape.salt;
-    let count = shape.count;
-    let used = columns[1];
-    let numerators = columns[2];
-    let denominators = columns[3];
-    let entries = capacity as usize;
+    let entries = table.shape.capacity as usize;
+    let salt = table.shape.salt;
     let mut n: usize = 0;
-    let mut k = from;
-    while k < count {
-        let read = Fraction {
-            num: numerators[k],
-            den: denominators[k],
-        };
-        if placement::takes(read, steps, salt, id, k) {
-            let filled = used[k] as usize;
-            n = medium::invalidate_server(medium, entries, filled, id, k, content, burns, n);
+    for k in from..table.shape.count {
+        if placement::takes(table.read_p(k), steps, salt, id, k) {
+            let used = table.used[k] as usize;
+            n = marking::invalidate_server(medium, entries, used, id, k, content, burns, n);
         }
-        k += 1;
     }
     n
 }

@@ -1,6 +1,6 @@
 -- `invalidation::invalidate` meets its contract. The invariant: the servers passed are done, as `Done` says.
 use mathlib.Core.Bool.{Bool, ◌&&◌}
-use Prim.Native.Nat.{ℕ, ◌-◌, ◌≤◌}
+use Prim.Native.Nat.{ℕ}
 use lib.Dec.{leb}
 use Rattle.table.specs.declared.Table.{Table}
 use Rattle.table.specs.Parts.{table_of, used_of, reads}
@@ -13,8 +13,5 @@ passes t id from k = leb from k && reads t id k
 
 abbrev pub invariant-loop-k : goal.invariant-loop-k
 invariant-loop-k l =
-    let t = table_of (record { capacity = l.capacity; salt = l.salt; count = l.count }) l.t-3 in
-    (l.from ≤ l.k) × Done l.capacity l.count (used_of t) l.initial.medium l.id (passes t l.id l.from) l.content l.burns l.k l.medium l.n
-
-abbrev pub decreases-loop-k : goal.decreases-loop-k
-decreases-loop-k l = l.count - l.k
+    let t = table_of l.table in
+    Done t.capacity t.count (used_of t) l.initial.medium l.id (passes t l.id l.from) l.content l.burns l.k l.medium l.n
