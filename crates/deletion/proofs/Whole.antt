@@ -35,5 +35,5 @@ module _ (t : Table) (m : List ℕ) (tenant id : ℕ) where
       let r = asked-ready t m tenant id _ (delete-ready t m tenant id z) in
       omega (arith, length-invalidations deleted (delete_marks t m id), marks-most t m id 0 r.inside)
 
-  pub delete-plain : delete_some_medium t m tenant id all_burns ≡ delete_medium t m tenant id
-  delete-plain = delete-enough all_burns delete-few
+  pub delete_plain : delete_some_medium t m tenant id all_burns ≡ delete_medium t m tenant id
+  delete_plain = delete-enough all_burns delete-few

@@ -1,73 +1,56 @@
 // Delete: every live entry of an id on every readable server is invalidated.
 #![tactic(auto)]
 
-ghost use Rattle.std.specs.Prelude.{◌≡◌, true};
-ghost use Rattle.table.specs.Parts.{table_of, Whole};
+ghost use Rattle.std.specs.Prelude.{◌≡◌};
+ghost use Rattle.table.specs.Parts.{table_of};
 ghost use Rattle.replies.specs.Reply.{reply_of_delete};
 ghost use Rattle.deletion.specs.Deletion.{delete_reply, delete_medium, delete_some_medium};
 
 use draws::Steps;
 use limits::ALL_BURNS;
-use replies::{Check, DeleteAnswer, Refusal};
-use table::{Columns, Shape, Table};
+use replies::Refusal;
+use table::{Table, View};
 
-// Deletes an id for a tenant on a table whose columns are borrowed, with as many marks burned as `burns` allow. It answers as if all
-// were.
-pub fn delete_in<'a>(
-    shape: Shape,
-    columns: Columns<'a>,
+// Deletes an id for a tenant on a table that is lent, with as many marks burned as `burns` allow. It answers how many entries it
+// invalidates, as if all were.
+pub fn delete_in(
+    table: &View<'_>,
     steps: &Steps,
     medium: &mut [u32],
     tenant: u32,
     id: u32,
     burns: usize,
-) -> DeleteAnswer
-    requires whole { Whole columns }
-    ensures reply { reply_of_delete result ≡ delete_reply (table_of shape columns.entry) medium.old tenant id }
-    ensures medium { medium.new ≡ delete_some_medium (table_of shape columns.entry) medium.old tenant id burns }
+) -> Result<usize, Refusal>
+    ensures reply { reply_of_delete result ≡ delete_reply (table_of table.now) medium.old tenant id }
+    ensures medium { medium.new ≡ delete_some_medium (table_of table.now) medium.old tenant id burns }
 {
-    let check = checks::asked(shape, columns, medium, tenant, id, false);
-    if let Check::Refused(refusal) = check {
-        return DeleteAnswer::Refused(refusal);
-    }
-    let n = invalidation::invalidate(medium, shape, columns, steps, id, 0, medium::DELETED, burns);
+    checks::asked(table, medium, tenant, id, false)?;
+    let n = invalidation::invalidate(medium, table, steps, id, 0, medium::DELETED, burns);
     if n == 0 {
-        return DeleteAnswer::Refused(Refusal::NotFound);
+        return Err(Refusal::NotFound);
     }
-    DeleteAnswer::Deleted(n)
+    Ok(n)
 }
 
-// Deletes an id for a tenant on a table by value, with a number of burns.
+// Deletes an id for a tenant, with a number of burns.
 pub fn delete_some(
-    table: Table,
+    table: &Table,
     medium: &mut [u32],
     tenant: u32,
     id: u32,
     burns: usize,
-) -> DeleteAnswer
-    ensures reply { reply_of_delete result ≡ delete_reply table medium.old tenant id }
-    ensures medium { medium.new ≡ delete_some_medium table medium.old tenant id burns }
+) -> Result<usize, Refusal>
+    ensures reply { reply_of_delete result ≡ delete_reply table.now medium.old tenant id }
+    ensures medium { medium.new ≡ delete_some_medium table.now medium.old tenant id burns }
 {
-    let shape = Shape {
-        capacity: table.capacity,
-        salt: table.salt,
-        count: table.count,
-    };
-    let steps = Steps::new();
-    let columns: Columns = [
-        &table.weights,
-        &table.used,
-        &table.numerators,
-        &table.denominators,
-        &table.counters,
-    ];
-    delete_in(shape, columns, &steps, medium, tenant, id, burns)
+    delete_in(&table.view(), &Steps::new(), medium, tenant, id, burns)
 }
 
-// Deletes an id for a tenant on a table by value.
-pub fn delete(table: Table, medium: &mut [u32], tenant: u32, id: u32) -> DeleteAnswer
-    ensures reply { reply_of_delete result ≡ delete_reply table medium.old tenant id }
-    ensures medium { medium.new ≡ delete_medium table medium.old tenant id }
+// Deletes an id for a tenant.
+#[tactic(auto, using(crate::proofs::Whole::delete_plain))]
+pub fn delete(table: &Table, medium: &mut [u32], tenant: u32, id: u32) -> Result<usize, Refusal>
+    ensures reply { reply_of_delete result ≡ delete_reply table.now medium.old tenant id }
+    ensures medium { medium.new ≡ delete_medium table.now medium.old tenant id }
 {
     delete_some(table, medium, tenant, id, ALL_BURNS)
 }

@@ -13,7 +13,7 @@ use Rattle.table.specs.declared.Table.{Table}
 use Rattle.upkeep.specs.Upkeep.{with_entry}
 use Rattle.replies.specs.Number.{add_server_number, reweight_number, write_number, delete_number, lookup_number}
 use Rattle.replies.specs.declared.Reply.{Reply}
-use Rattle.deletion.proofs.Whole.{delete-plain}
+use Rattle.deletion.proofs.Whole.{delete_plain}
 use Rattle.writing.specs.Writing.{write_reply}
 use Rattle.writing.proofs.Accepted.{written-some, some-kept}
 use Rattle.writing.proofs.Whole.{write-plain}
@@ -36,7 +36,7 @@ module _ (S : State) (number tenant id value : ℕ) where
     some-medium = rw (ne_eqb number add_server_number a, ne_eqb number reweight_number b, ne_eqb number lookup_number l)
         (by_bool (eqb number write_number)
         (λ w. rw w (write-plain S.table S.medium tenant id value).medium)
-        (λ w. rw w (by_bool (eqb number delete_number) (λ d. rw d (delete-plain S.table S.medium tenant id)) (λ d. rw d))))
+        (λ w. rw w (by_bool (eqb number delete_number) (λ d. rw d (delete_plain S.table S.medium tenant id)) (λ d. rw d))))
 
   module _ (r : Reply) (e : r ≡ some_reply S number tenant id value) where
     pub written-here : number ≡ write_number → r ≡ reply_to S (call_of number tenant id value)
