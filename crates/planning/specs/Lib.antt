@@ -1,2 +1,1 @@
 pub mod WriteRows
-pub mod Plan
