@@ -60,5 +60,10 @@ module _ (t : Table) (m : List ℕ) (tenant id value k : ℕ) (g : Planned t m t
   pub words_there : a + 3 ≤ length m
   words_there = let l = entry_in t.capacity t.count k (used_of t k) 2 g.there (omega (arith, g.entry, eqb-false _ _ free)) (omega arith) in omega (arith, g.inside.long)
 
-  pub tested : {r : Bool} (b : Bool) → r ≡ blank_run m a 3 → r ≡ b → first_of (7 when not b ∷ []) ≡ first_of (write_rows t m tenant id value)
-  tested b e f = sym (g.rest ∙ entry-tested t m id k is b free (sym (rw at at e) ∙ f))
+  pub blank_there : {r : Bool} → r ≡ blank_run m a 3 → r ≡ true → 0 ≡ first_of (write_rows t m tenant id value)
+  unfolding first_of
+  blank_there e f = sym (g.rest ∙ entry-tested t m id k is true free (sym (rw at at e) ∙ f))
+
+  pub burned_there : {r : Bool} → r ≡ blank_run m a 3 → r ≡ false → 7 ≡ first_of (write_rows t m tenant id value)
+  unfolding first_of
+  burned_there e f = sym (g.rest ∙ entry-tested t m id k is false free (sym (rw at at e) ∙ f))

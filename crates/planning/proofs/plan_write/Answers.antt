@@ -1,24 +1,18 @@
 -- `planning::plan_write` meets its contract: what the shared tests say, a return for each row after them, and the write server where
 -- none applies.
-use Prim.Native.Nat.{ℕ}
-use mathlib.Core.Path.{◌≡◌, sym, ◌∙◌, ap}
-use mathlib.Core.Bool.{true, false}
-use mathlib.Core.List.{List}
+use mathlib.Core.Path.{sym, ◌∙◌}
 use native.Mathlib.Omega.{arith}
 use borrow.Author.Rules.{rules}
 use borrow.Author.Tests.{eq-eqb, ne_eqb}
 use Rattle.std.proofs.lemmas.Result.{err_from_is_err_and}
-use Rattle.medium.specs.Entry.{blank_run}
-use Rattle.medium.proofs.Places.{entry_in}
-use Rattle.table.specs.Parts.{table_of, used_of}
+use Rattle.table.specs.Parts.{table_of}
 use Rattle.table.proofs.Soundness.{sound-facts, sound-bounded}
-use Rattle.replies.specs.Refusal.{first_of}
 use Rattle.replies.specs.Reply.{number_of, check_number}
 use Rattle.replies.proofs.Refusals.{first-earlier}
 use Rattle.replies.proofs.Answers.{number-not-zero, check-refused, check-accepted}
 use Rattle.checks.proofs.Passed.{asked-numbered, asked-ready}
 use Rattle.planning.specs.WriteRows.{target, write_rows}
-use Rattle.planning.proofs.EntryRows.{entry-full, planned, words_there, tested}
+use Rattle.planning.proofs.EntryRows.{entry-full, planned, words_there, blank_there, burned_there}
 use Rattle.planning.proofs.plan_write.Goals as goal
 
 pub returns-in_err-asked-clause-number : goal.returns-in_err-asked-clause-number
@@ -65,16 +59,16 @@ is_blank-requires c =
     words_there _ _ _ _ _ _ g c.write_server-server.ensures (ne_eqb _ _ c.if-entry-shape.false) c.entry_at-at.ensures
 
 pub returns-then-not-is_blank-clause-number : goal.returns-then-not-is_blank-clause-number
-unfolding check_number number_of first_of target
+unfolding check_number number_of target
 returns-then-not-is_blank-clause-number c =
     let g = planned (table_of c.args.table.now) _ _ _ _ c.write_server-server.result (check-accepted _ c.asked.ensures c.in_ok-asked.was) c.write_server-server.ensures in
-    tested _ _ _ _ _ _ g c.write_server-server.ensures (ne_eqb _ _ c.if-entry-shape.false) c.entry_at-at.ensures false c.is_blank.ensures c.if-not-is_blank.true
+    burned_there _ _ _ _ _ _ g c.write_server-server.ensures (ne_eqb _ _ c.if-entry-shape.false) c.entry_at-at.ensures c.is_blank.ensures c.if-not-is_blank.true
 
 pub returns-clause-number : goal.returns-clause-number
-unfolding check_number first_of target
+unfolding check_number target
 returns-clause-number c =
     let g = planned (table_of c.args.table.now) _ _ _ _ c.write_server-server.result (check-accepted _ c.asked.ensures c.in_ok-asked.was) c.write_server-server.ensures in
-    tested _ _ _ _ _ _ g c.write_server-server.ensures (ne_eqb _ _ c.if-entry-shape.false) c.entry_at-at.ensures true c.is_blank.ensures c.if-not-is_blank.false
+    blank_there _ _ _ _ _ _ g c.write_server-server.ensures (ne_eqb _ _ c.if-entry-shape.false) c.entry_at-at.ensures c.is_blank.ensures c.if-not-is_blank.false
 
 pub returns-clause-server : goal.returns-clause-server
 unfolding target
