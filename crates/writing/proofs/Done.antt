@@ -1,6 +1,8 @@
 -- The last equations of write.
 -- Assumes nothing.
-use Prim.Native.Nat.{ℕ, ◌+◌, ◌-◌}
+use Prim.Native.Nat.{ℕ, ◌+◌, ◌-◌, ◌≤◌, ◌<◌}
+use Rattle.limits.specs.Limits.{max_capacity, content_range}
+use Rattle.medium.proofs.Places.{entry_in}
 use mathlib.Core.Path.{◌≡◌, refl, sym, ap, ap₂, ◌∙◌}
 use mathlib.Core.Bool.{Bool, cond}
 use mathlib.Core.List.{List}
@@ -15,8 +17,8 @@ use Rattle.table.specs.declared.Table.{Table}
 use Rattle.table.specs.Parts.{used_of}
 use Rattle.upkeep.specs.Upkeep.{with_entry}
 use Rattle.replies.specs.declared.Refusal.{Refusal}
-use Rattle.replies.specs.declared.WriteAnswer.{WriteAnswer}
-use Rattle.replies.specs.declared.WriteAnswer.TheVariants.{Written, Refused}
+use Rattle.std.specs.Prelude.{Result, Ok, Err}
+use Rattle.replies.specs.declared.Written.{Written}
 use Rattle.replies.specs.Refusal.{first_of}
 use Rattle.replies.specs.Reply.{refused, on_server, number_of, reply_of_write}
 use Rattle.replies.proofs.Refusals.{settle-yes}
@@ -32,6 +34,29 @@ use Rattle.writing.proofs.NewEntry.{new_burns, entered, entered-burns, entered-m
 pub write-refused : (t : Table) (m : List ℕ) (tenant id value burns : ℕ) (r : Refusal) → number_of r ≡ first_of (write_rows t m tenant id value) → (refused (number_of r) 0 ≡ write_reply t m tenant id value) × (m ≡ write_some_medium t m tenant id value burns)
 unfolding write_reply write_some_medium
 write-refused t m tenant id value burns r e = (reply-refused (write_rows t m tenant id value) r e _, kept (write_rows t m tenant id value) r e _ m)
+
+-- a write that goes to server k: its entry there, whose words are inside the medium
+pub record Placed (t : Table) (m : List ℕ) (k value : ℕ) : Type 0 where
+  pub few : k < 256
+  pub high : t.capacity ≤ max_capacity
+  pub free : used_of t k < t.capacity
+  pub words : entry_at t.capacity k (used_of t k) + 2 < length m
+  pub small : value < content_range
+  pub inside : AllInside t.capacity t.count (used_of t) m
+
+pub placed : (t : Table) (m : List ℕ) (tenant id value k : ℕ) → first_of (write_rows t m tenant id value) ≡ 0 → k ≡ target t id → Placed t m k value
+placed t m tenant id value k z is =
+    let w = write-accepted t m tenant id value z in
+    let there : k < t.count = omega (arith, w.there) in
+    let free : used_of t k < t.capacity = omega (arith, w.free, ap (used_of t) is) in
+    record {
+      few = omega (arith, w.inside.few);
+      high = w.inside.small;
+      free = free;
+      words = omega (arith, entry_in t.capacity t.count k (used_of t k) 2 there free (omega arith), w.inside.long);
+      small = w.small;
+      inside = w.inside;
+    }
 
 -- servers lie inside a medium by its length alone
 pub inside-burned : (capacity count : ℕ) (used : ℕ → ℕ) (m : List ℕ) (bs : List Burn) → AllInside capacity count used m → AllInside capacity count used (burn_all m bs)
@@ -66,15 +91,15 @@ module _ (t : Table) (m : List ℕ) (tenant id value burns : ℕ) (z : first_of 
   )
 
 -- the table after a write, by its answer
-module _ (t : Table) (m : List ℕ) (tenant id value : ℕ) {a : WriteAnswer} (e : reply_of_write a ≡ write_reply t m tenant id value) where
-  pub answered-written : {k n : ℕ} → a ≡ Written k n → WrittenTo t m tenant id value k
+module _ (t : Table) (m : List ℕ) (tenant id value : ℕ) {a : Result Written Refusal} (e : reply_of_write a ≡ write_reply t m tenant id value) where
+  pub answered-written : {w : Written} → a ≡ Ok w → WrittenTo t m tenant id value w.server
   unfolding reply_of_write
-  answered-written {k} {n} g = written-to t m tenant id value (on_server k n) (sym (ap reply_of_write g) ∙ e) refl
+  answered-written {w} g = written-to t m tenant id value (on_server w.server w.invalidated) (sym (ap reply_of_write g) ∙ e) refl
 
-  pub answered-some : {k n : ℕ} → a ≡ Written k n → (burns : ℕ) (b : Bool) → b ≡ leb (n + 2) burns → cond b (with_entry t k) t ≡ write_some_table t m tenant id value burns
+  pub answered-some : {w : Written} → a ≡ Ok w → (burns : ℕ) (b : Bool) → b ≡ leb (w.invalidated + 2) burns → cond b (with_entry t w.server) t ≡ write_some_table t m tenant id value burns
   unfolding reply_of_write
-  answered-some {k} {n} g = written-some t m tenant id value (on_server k n) (sym (ap reply_of_write g) ∙ e) refl
+  answered-some {w} g = written-some t m tenant id value (on_server w.server w.invalidated) (sym (ap reply_of_write g) ∙ e) refl
 
-  pub answered-refused : {r : Refusal} → a ≡ Refused r → (burns : ℕ) → t ≡ write_some_table t m tenant id value burns
+  pub answered-refused : {r : Refusal} → a ≡ Err r → (burns : ℕ) → t ≡ write_some_table t m tenant id value burns
   unfolding reply_of_write
   answered-refused {r} g = some-kept t m tenant id value (refused (number_of r) 0) (sym (ap reply_of_write g) ∙ e) (number-not-zero r)

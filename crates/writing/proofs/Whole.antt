@@ -48,3 +48,9 @@ module _ (t : Table) (m : List ℕ) (tenant id value : ℕ) where
 
   pub write-plain : Whole t m tenant id value all_burns
   write-plain = write-enough all_burns write-few
+
+  pub write_plain_table : write_some_table t m tenant id value all_burns ≡ write_table t m tenant id value
+  write_plain_table = write-plain.table
+
+  pub write_plain_medium : write_some_medium t m tenant id value all_burns ≡ write_medium t m tenant id value
+  write_plain_medium = write-plain.medium
