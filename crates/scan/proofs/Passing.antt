@@ -1,16 +1,20 @@
 -- Blocks that a search passes over: where no entry of a block bears the id, the highest live entry is below it.
 -- The laws are over any number of entries in a block. Assumes nothing.
 use Prim.Native.Nat.{ℕ, ◌+◌, ◌-◌, ◌*◌, ◌≤◌, ◌<◌}
-use mathlib.Core.Path.{◌≡◌, sym, ap, ◌∙◌}
-use mathlib.Core.Bool.{Bool, false}
+use mathlib.Core.Path.{◌≡◌, refl, sym, ap, ◌∙◌}
+use mathlib.Core.Bool.{Bool, false, cond, ◌||◌}
 use mathlib.Core.List.{List}
 use native.Mathlib.Omega.{arith}
+use Rattle.std.proofs.Common.{Some}
 use lib.Dec.{eqb}
+use lib.ListN.{length, get_or, take, drop}
+use Rattle.std.proofs.Math.Bool.{or_comm}
+use Rattle.std.proofs.lemmas.List.{get_or-take, get_or-drop}
 use Rattle.lists.specs.Below.{nth, some_below, highest}
-use Rattle.lists.proofs.Below.{some_below-out, highest-below}
+use Rattle.lists.proofs.Below.{some_below-out, some_below-next, highest-last, highest-below}
 use Rattle.medium.specs.Word.{id_word}
-use Rattle.medium.specs.Entry.{entry_words, entry_at, bears_at, live}
-use Rattle.medium.proofs.Places.{entry-on}
+use Rattle.medium.specs.Entry.{entry_words, entry_at, bears_at, live, Inside}
+use Rattle.medium.proofs.Places.{entry-on, entries-inside}
 use Rattle.medium.proofs.Entries.{live_below}
 
 -- some of n words from an address on is an id's, and some of n entries bears it
@@ -19,6 +23,11 @@ has_word m id from n = some_below (λ i. eqb (nth m (from + i)) (id_word id)) n
 
 abbrev pub bears_some : List ℕ → ℕ → ℕ → ℕ → Bool
 bears_some m id from n = some_below (λ i. bears_at m id (from + entry_words * i)) n
+
+-- the words of a run are a slice, and its next word is the slice's
+pub has-next : (m : List ℕ) (id from n i : ℕ) {found : Bool} → i < n → found ≡ has_word m id from i
+    → found || eqb (get_or (take n (drop from m)) i 0) id ≡ has_word m id from (i + 1)
+has-next m id from n i {found} l e = rw (get_or-take n (drop from m) i 0 l, get_or-drop from m i 0, or_comm) (some_below-next (λ i. eqb (nth m (from + i)) id) i (eqb (nth m (from + i)) id) found refl e)
 
 -- an entry whose first word is not the id's does not bear it
 other_word : (m : List ℕ) (id at : ℕ) → eqb (nth m at) (id_word id) ≡ false → bears_at m id at ≡ false
@@ -40,9 +49,19 @@ module _ (capacity used : ℕ) (m : List ℕ) (id k d j : ℕ) (few : d ≤ j) (
     pub block-passed : highest (live capacity used m id k) j ≡ highest (live capacity used m id k) (j - d)
     block-passed = highest-below (live capacity used m id k) j (j - d) (omega arith) dead
 
+  -- it lies inside the medium
+  pub block-inside : Inside capacity k m → used ≤ capacity → from + entry_words * d ≤ length m
+  block-inside i l = omega (arith, place, entries-inside capacity k (j - d) d m i (omega arith))
+
   -- as the code tells it: by the words, and by the entries where the words do not
   pub passed-by-words : has_word m id from (entry_words * d) ≡ false → highest (live capacity used m id k) j ≡ highest (live capacity used m id k) (j - d)
   passed-by-words e = block-passed (none-by-words m id from d e)
 
   pub passed-by-entries : bears_some m id from d ≡ false → highest (live capacity used m id k) j ≡ highest (live capacity used m id k) (j - d)
   passed-by-entries e = block-passed (λ i l. some_below-out (λ i. bears_at m id (from + entry_words * i)) d e i l)
+
+-- the highest entry of those left is the highest live one, or else it is below
+pub highest-entry : (capacity used : ℕ) (m : List ℕ) (id k j : ℕ) {at : ℕ} {borne : Bool} → 0 < j → j ≤ used → at ≡ entry_at capacity k (j - 1) → borne ≡ bears_at m id at
+    → highest (live capacity used m id k) j ≡ cond borne (Some (j - 1)) (highest (live capacity used m id k) (j - 1))
+highest-entry capacity used m id k j l below place test =
+    highest-last (live capacity used m id k) j _ l (live_below capacity used m id k (j - 1) (omega arith) ∙ ap (bears_at m id) (sym place) ∙ sym test)

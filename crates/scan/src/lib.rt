@@ -27,10 +27,8 @@ pub fn has(medium: &[u32], from: usize, n: usize, id: u32) -> bool
     ensures { result ≡ some_below (λ i. eqb (nth medium.now (from + i)) (id_word id)) n }
 {
     let mut found = false;
-    let mut i: usize = 0;
-    while i < n {
-        found = (medium[from + i] == id) | found;
-        i += 1;
+    for word in &medium[from..from + n] {
+        found |= *word == id;
     }
     found
 }
@@ -40,12 +38,10 @@ fn bears_some(medium: &[u32], from: usize, n: usize, id: u32) -> bool
     requires { from + entry_words * n ≤ length medium.now }
     ensures { result ≡ some_below (λ i. bears_at medium.now id (from + entry_words * i)) n }
 {
-    let mut i: usize = 0;
-    while i < n {
+    for i in 0..n {
         if medium::bears(medium, from + ENTRY_WORDS * i, id) {
             return true;
         }
-        i += 1;
     }
     false
 }
@@ -59,6 +55,7 @@ fn pass_blocks(medium: &[u32], capacity: usize, used: usize, id: u32, server: us
     ensures same { highest (live capacity used medium.now id server) used ≡ highest (live capacity used medium.now id server) result }
 {
     let mut j = used;
+    // A loop that goes down by a block: as a `for` over the blocks' numbers it divides twice and is no plainer.
     while BLOCK_ENTRIES <= j {
         let from = medium::entry_at(capacity, server, j - BLOCK_ENTRIES);
         if has(medium, from, BLOCK_WORDS, id) {
@@ -82,6 +79,7 @@ pub fn left(medium: &[u32], capacity: usize, used: usize, id: u32, server: usize
     if MANY <= used {
         j = pass_blocks(medium, capacity, used, id, server);
     }
+    // Here too: the groups begin where the blocks end, at no whole number of them.
     while GROUP <= j {
         let first = medium::entry_at(capacity, server, j - GROUP);
         if bears_some(medium, first, GROUP, id) {
@@ -90,4 +88,20 @@ pub fn left(medium: &[u32], capacity: usize, used: usize, id: u32, server: usize
         j -= GROUP;
     }
     j
+}
+
+// The highest-numbered live entry of an id on a server.
+pub fn newest(medium: &[u32], capacity: usize, used: usize, id: u32, server: usize) -> Option<usize>
+    requires inside { Inside capacity server medium.now }
+    requires used_le_capacity { used ≤ capacity }
+    ensures { result ≡ highest (live capacity used medium.now id server) used }
+{
+    let entries = left(medium, capacity, used, id, server);
+    for j in (0..entries).rev() {
+        let at = medium::entry_at(capacity, server, j);
+        if medium::bears(medium, at, id) {
+            return Some(j);
+        }
+    }
+    None
 }

@@ -1,13 +1,14 @@
 -- `scan::has` meets its contract. The invariant: whether a word passed is the id's.
-use mathlib.Core.Path.{refl}
-use borrow.Author.Rules.{rules}
+use Rattle.std.proofs.Common.{◌+◌, ◌-◌, refl, arith}
 use Rattle.lists.specs.Below.{some_below}
-use Rattle.lists.proofs.Below.{some_below-next}
+use Rattle.scan.proofs.Passing.{has-next}
 use Rattle.scan.proofs.has.Goals as goal
 
-pub loop-i-init : goal.loop-i-init
+pub loop-word-init : goal.loop-word-init
 unfolding some_below
-loop-i-init c = (search rules, refl)
+loop-word-init c = refl
 
-pub loop-i-preserved : goal.loop-i-preserved
-loop-i-preserved c = (search rules, some_below-next _ c.loop-i.i _ c.loop-i.found refl c.loop-i.invariant.1)
+pub loop-word-preserved : goal.loop-word-preserved
+loop-word-preserved c =
+    let a = c.args in
+    has-next a.medium.now a.id a.from (a.from + a.n - a.from) c.loop-word.word-index (omega arith) c.loop-word.invariant

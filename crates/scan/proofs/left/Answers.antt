@@ -1,16 +1,12 @@
 -- `scan::left` meets its contract. The invariant: the highest live entry is one of those left.
-use Prim.Native.Nat.{◌-◌}
-use mathlib.Core.Path.{sym, ◌∙◌}
-use native.Mathlib.Omega.{arith}
-use borrow.Author.Rules.{rules}
-use Rattle.medium.proofs.Places.{entries-inside}
-use Rattle.scan.proofs.Passing.{passed-by-entries}
+use Rattle.std.proofs.Common.{◌∙◌, sym, rules}
+use Rattle.scan.proofs.Passing.{block-inside, passed-by-entries}
 use Rattle.scan.proofs.left.Goals as goal
 
 pub bears_some-requires : goal.bears_some-requires
 bears_some-requires c =
     let a = c.args in
-    omega (arith, c.entry_at-first.ensures, entries-inside a.capacity a.server (c.loop-j.j - 4) 4 a.medium.now c.requires.inside (omega (arith, c.requires.used_le_capacity)))
+    block-inside a.capacity a.used a.medium.now a.id a.server 4 c.loop-j.j (search rules) (search rules) c.entry_at-first.ensures c.requires.inside c.requires.used_le_capacity
 
 pub loop-j-preserved : goal.loop-j-preserved
 loop-j-preserved c =

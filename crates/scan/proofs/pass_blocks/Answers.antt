@@ -1,27 +1,18 @@
 -- `scan::pass_blocks` meets its contract. The invariant: the highest live entry is one of those left.
-use Prim.Native.Nat.{◌+◌, ◌-◌, ◌≤◌}
-use mathlib.Core.Path.{sym, ◌∙◌}
-use native.Mathlib.Omega.{arith}
-use borrow.Author.Rules.{rules}
-use lib.ListN.{length}
-use Rattle.medium.proofs.Places.{entries-inside}
-use Rattle.scan.proofs.Passing.{passed-by-words, passed-by-entries}
+use Rattle.std.proofs.Common.{◌∙◌, sym, rules}
+use Rattle.scan.proofs.Passing.{block-inside, passed-by-words, passed-by-entries}
 use Rattle.scan.proofs.pass_blocks.Goals as goal
 use Rattle.scan.proofs.pass_blocks.Goals.{else-has, then-has+else-bears_some}
 
 pub has-requires : goal.has-requires
-has-requires c = omega (
-  arith,
-  (let room' : c.entry_at-from.result + 96 ≤ length c.args.medium.now = let a = c.args in
-      omega (arith, c.entry_at-from.ensures, entries-inside a.capacity a.server (c.loop-j.j - 32) 32 a.medium.now c.requires.inside (omega (arith, c.requires.used_le_capacity))) in room'),
-)
+has-requires c =
+    let a = c.args in
+    block-inside a.capacity a.used a.medium.now a.id a.server 32 c.loop-j.j (search rules) (search rules) c.entry_at-from.ensures c.requires.inside c.requires.used_le_capacity
 
 pub bears_some-requires : goal.bears_some-requires
-bears_some-requires c = omega (
-  arith,
-  (let room' : c.entry_at-from.result + 96 ≤ length c.args.medium.now = let a = c.args in
-      omega (arith, c.entry_at-from.ensures, entries-inside a.capacity a.server (c.loop-j.j - 32) 32 a.medium.now c.requires.inside (omega (arith, c.requires.used_le_capacity))) in room'),
-)
+bears_some-requires c =
+    let a = c.args in
+    block-inside a.capacity a.used a.medium.now a.id a.server 32 c.loop-j.j (search rules) (search rules) c.entry_at-from.ensures c.requires.inside c.requires.used_le_capacity
 
 pub loop-j-preserved : goal.loop-j-preserved
 loop-j-preserved c =
