@@ -49,7 +49,7 @@ pub fn invalidate<'a>(
         };
         if placement::takes(read, steps, salt, id, k) {
             let filled = used[k] as usize;
-            n = medium::invalidate_server(medium, entries, filled, id, k, content, burns, n);
+            n = marking::invalidate_server(medium, entries, filled, id, k, content, burns, n);
         }
         k += 1;
     }
