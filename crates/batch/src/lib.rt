@@ -60,7 +60,7 @@ pub fn lookup_batch_in<'a>(
             num: numerators[k],
             den: denominators[k],
         };
-        parts = batch_steps::step_all(parts, read, &steps, shape, used[k], medium, ids, k);
+        batch_steps::step_all(&mut parts, read, &steps, shape, used[k], medium, ids, k);
         if batch_answer::has(&parts.ends, n, k as u16 + 1) {
             mounts += 1;
         }

@@ -3,21 +3,14 @@
 
 ghost use Rattle.std.specs.Prelude.{◌≡◌, true, ℕ, ◌≤◌, ◌<◌, length};
 ghost use Rattle.limits.specs.Limits.{max_servers, max_ids};
-ghost use Rattle.lists.specs.Below.{nth, highest};
+ghost use Rattle.lists.specs.Below.{nth};
 ghost use Rattle.draws.specs.Draw.{are_steps};
-ghost use Rattle.medium.specs.Entry.{live, Inside};
-ghost use Rattle.batch_steps.specs.Steps.{newest_by, stepped, stepped_all};
+ghost use Rattle.medium.specs.Entry.{Inside};
+ghost use Rattle.batch_steps.specs.Steps.{stepped, stepped_all};
 
 use batch_begin::Parts;
 use placement::Fraction;
 use table::Shape;
-
-// The newest entry of an id on a server: the highest-numbered live one.
-#[derive(Clone, Copy)]
-enum Newest {
-    Entry(usize),
-    Nothing,
-}
 
 // How far the lookup of one id in a batch is: its number of each array of `Parts`.
 #[derive(Clone, Copy)]
@@ -26,22 +19,6 @@ pub struct Progress {
     pub value: u32,
     pub opened: u32,
     pub end: u16,
-}
-
-// The highest-numbered live entry of an id on a server.
-fn newest_on(capacity: u32, used: u32, medium: &[u32], id: u32, server: usize) -> Newest
-    requires inside { Inside capacity server medium.now }
-    requires used_le_capacity { used ≤ capacity }
-    ensures { result ≡ newest_by (highest (live capacity used medium.now id server) used) }
-{
-    let mut j = used as usize;
-    while 0 < j {
-        j -= 1;
-        if medium::bears(medium, medium::entry_at(capacity as usize, server, j), id) {
-            return Newest::Entry(j);
-        }
-    }
-    Newest::Nothing
 }
 
 // Takes one server for one id: it is opened if no entry of the id was met yet and it is read for the id.
@@ -69,14 +46,14 @@ fn step(
     }
     let opened = progress.opened + 1;
     let end = server as u16 + 1;
-    match newest_on(shape.capacity, used, medium, id, server) {
-        Newest::Nothing => Progress {
+    match scan::newest(medium, shape.capacity as usize, used as usize, id, server) {
+        None => Progress {
             refusal: 8,
             value: 0,
             opened,
             end,
         },
-        Newest::Entry(entry) => {
+        Some(entry) => {
             let answer = lookup::met(shape.capacity, medium, server, entry, opened as usize);
             let reply = replies::lookup_reply(answer);
             Progress {
@@ -91,7 +68,7 @@ fn step(
 
 // Takes one server for every id.
 pub fn step_all(
-    parts: Parts,
+    parts: &mut Parts,
     read: Fraction,
     steps: &[u32],
     shape: Shape,
@@ -99,29 +76,25 @@ pub fn step_all(
     medium: &[u32],
     ids: &[u32],
     server: usize,
-) -> Parts
+)
     requires inside { Inside shape.capacity server medium.now }
     requires used_le_capacity { used ≤ shape.capacity }
     requires ids_len_bound { length ids.now ≤ max_ids }
-    requires by_index { (i : ℕ) → i < length ids.now → nth parts.opened i ≤ max_servers }
+    requires by_index { (i : ℕ) → i < length ids.now → nth parts.old.opened i ≤ max_servers }
     requires steps_value { are_steps steps.now ≡ true }
-    ensures { result ≡ stepped_all read shape used medium.now ids.now server parts }
+    ensures { parts.new ≡ stepped_all read shape used medium.now ids.now server parts.old }
 {
-    let mut next = parts;
-    let mut i: usize = 0;
-    while i < ids.len() {
+    for (i, id) in ids.iter().enumerate() {
         let before = Progress {
-            refusal: next.refusals[i],
-            value: next.values[i],
-            opened: next.opened[i],
-            end: next.ends[i],
+            refusal: parts.refusals[i],
+            value: parts.values[i],
+            opened: parts.opened[i],
+            end: parts.ends[i],
         };
-        let after = step(before, read, steps, shape, used, medium, ids[i], server);
-        next.refusals[i] = after.refusal;
-        next.values[i] = after.value;
-        next.opened[i] = after.opened;
-        next.ends[i] = after.end;
-        i += 1;
+        let after = step(before, read, steps, shape, used, medium, *id, server);
+        parts.refusals[i] = after.refusal;
+        parts.values[i] = after.value;
+        parts.opened[i] = after.opened;
+        parts.ends[i] = after.end;
     }
-    next
 }

@@ -70,18 +70,18 @@ bounds-used-k c =
     let column-long : Whole c.args.columns = c.requires in
     omega (arith, low, (column-long).used)
 
-pub step_all-parts-requires-clause-inside : goal.step_all-parts-requires-clause-inside
-step_all-parts-requires-clause-inside c =
+pub step_all-requires-clause-inside : goal.step_all-requires-clause-inside
+step_all-requires-clause-inside c =
     let here : (c.loop-k.k - 1 < ((table_of c.args.shape c.args.columns)).count) × Ready ((table_of c.args.shape c.args.columns)) (c.args.medium.now) = ready-there ((table_of c.args.shape c.args.columns)) (c.args.medium.now) (c.args.tenant) (c.args.ids.now) (c.loop-k.k - 1) (omega (arith, c.loop-k.invariant.below)) in
     let h = here in each-inside ((table_of c.args.shape c.args.columns)).capacity ((table_of c.args.shape c.args.columns)).count (c.loop-k.k - 1) (nth ((table_of c.args.shape c.args.columns)).used) (c.args.medium.now) h.1.inside h.0
 
-pub step_all-parts-requires-clause-used_le_capacity : goal.step_all-parts-requires-clause-used_le_capacity
-step_all-parts-requires-clause-used_le_capacity c =
+pub step_all-requires-clause-used_le_capacity : goal.step_all-requires-clause-used_le_capacity
+step_all-requires-clause-used_le_capacity c =
     let here : (c.loop-k.k - 1 < ((table_of c.args.shape c.args.columns)).count) × Ready ((table_of c.args.shape c.args.columns)) (c.args.medium.now) = ready-there ((table_of c.args.shape c.args.columns)) (c.args.medium.now) (c.args.tenant) (c.args.ids.now) (c.loop-k.k - 1) (omega (arith, c.loop-k.invariant.below)) in
     let h = here in h.1.inside.fits (c.loop-k.k - 1) h.0
 
-pub step_all-parts-requires-clause-by_index : goal.step_all-parts-requires-clause-by_index
-step_all-parts-requires-clause-by_index c =
+pub step_all-requires-clause-by_index : goal.step_all-requires-clause-by_index
+step_all-requires-clause-by_index c =
     let here : (c.loop-k.k - 1 < ((table_of c.args.shape c.args.columns)).count) × Ready ((table_of c.args.shape c.args.columns)) (c.args.medium.now) = ready-there ((table_of c.args.shape c.args.columns)) (c.args.medium.now) (c.args.tenant) (c.args.ids.now) (c.loop-k.k - 1) (omega (arith, c.loop-k.invariant.below)) in
     let h = here in opened-few ((table_of c.args.shape c.args.columns)) (c.args.medium.now) (c.args.tenant) (c.args.ids.now) c.loop-k.k c.loop-k.parts c.loop-k.invariant.done h.1.inside.few
 
@@ -106,14 +106,14 @@ pub loop-k-preserved-then-has : goal.loop-k-preserved-then-has
 loop-k-preserved-then-has c =
     let from : BatchFrom ((table_of c.args.shape c.args.columns)) (c.args.medium.now) (c.args.tenant) (c.args.ids.now) (suc (c.loop-k.k - 1)) c.loop-k.parts c.loop-k.mounts = let e : c.loop-k.k ≡ suc (c.loop-k.k - 1) = omega arith in rw e at c.loop-k.invariant in
     batch-opened ((table_of c.args.shape c.args.columns)) (c.args.medium.now) (c.args.tenant) (c.args.ids.now) (c.loop-k.k - 1) c.loop-k.parts c.loop-k.mounts (from)
-    c.step_all-parts.result c.step_all-parts.ensures
+    c.step_all.new.parts c.step_all.ensures
     (c.loop-k.k - 1 + 1) (omega arith) c.has.ensures c.if-has.true
 
 pub loop-k-preserved : goal.loop-k-preserved
 loop-k-preserved c =
     let from : BatchFrom ((table_of c.args.shape c.args.columns)) (c.args.medium.now) (c.args.tenant) (c.args.ids.now) (suc (c.loop-k.k - 1)) c.loop-k.parts c.loop-k.mounts = let e : c.loop-k.k ≡ suc (c.loop-k.k - 1) = omega arith in rw e at c.loop-k.invariant in
     batch-closed ((table_of c.args.shape c.args.columns)) (c.args.medium.now) (c.args.tenant) (c.args.ids.now) (c.loop-k.k - 1) c.loop-k.parts c.loop-k.mounts (from)
-    c.step_all-parts.result c.step_all-parts.ensures
+    c.step_all.new.parts c.step_all.ensures
     (c.loop-k.k - 1 + 1) (omega arith) c.has.ensures c.if-has.false
 
 pub order-requires-clause-count_le_max_servers : goal.order-requires-clause-count_le_max_servers

@@ -12,13 +12,13 @@ returns-then-not-takes c =
 
 pub met-answer-requires-clause-lt_capacity : goal.met-answer-requires-clause-lt_capacity
 met-answer-requires-clause-lt_capacity c =
-    omega (arith, c.requires.used_le_capacity, newest-used _ _ _ _ _ c.newest_on.ensures _ c.in-Entry.is)
+    omega (arith, c.requires.used_le_capacity, newest-used _ _ _ _ _ c.newest.ensures _ c.in-Some.is)
 
-pub returns-in-Nothing : goal.returns-in-Nothing
-returns-in-Nothing c =
-    step-passed _ _ _ _ _ _ _ c.if-progress-ne8.false c.takes.ensures c.if-not-takes.false c.newest_on.ensures c.in-Nothing.is
+pub returns-in-None : goal.returns-in-None
+returns-in-None c =
+    step-passed _ _ _ _ _ _ _ c.if-progress-ne8.false c.takes.ensures c.if-not-takes.false c.newest.ensures c.in-None.is
 
-pub returns-in-Entry : goal.returns-in-Entry
-returns-in-Entry c =
-    step-met _ _ _ _ _ _ _ c.if-progress-ne8.false c.takes.ensures c.if-not-takes.false c.newest_on.ensures _ c.in-Entry.is
+pub returns-in-Some : goal.returns-in-Some
+returns-in-Some c =
+    step-met _ _ _ _ _ _ _ c.if-progress-ne8.false c.takes.ensures c.if-not-takes.false c.newest.ensures _ c.in-Some.is
     c.lookup_reply-reply.ensures c.met-answer.ensures
