@@ -2,66 +2,49 @@
 // that it is read for. The table counts for the tenant what single lookups would.
 #![tactic(auto)]
 
-ghost use Rattle.std.specs.Prelude.{◌≡◌};
-ghost use Rattle.table.specs.Parts.{table_of, Whole};
+ghost use Rattle.std.specs.Prelude.{◌≡◌, cond, ◌==◌};
+ghost use Rattle.table.specs.Parts.{table_of};
 ghost use Rattle.batch_answer.specs.Answer.{refused_batch};
 ghost use Rattle.batch.specs.Batch.{long_number, batch_reply, batch_table};
 
-use draws::Steps;
 use batch_answer::Batch;
+use draws::Steps;
 use limits::MAX_IDS;
-use placement::Fraction;
-use table::{Columns, Shape, Table};
-
-// The answer to a batch, and the table after it.
-#[derive(Clone, Copy)]
-pub struct BatchLookedUp {
-    pub batch: Batch,
-    pub table: Table,
-}
+use table::{Table, View};
 
 // Refuses a list that is too long.
-fn refuse_list<'a>(shape: Shape, columns: Columns<'a>) -> Batch
-    requires { Whole columns }
-    ensures { result ≡ refused_batch (long_number (table_of shape columns.entry)) }
+#[tactic(auto, unfolding(crate::specs::Batch::long_number))]
+fn refuse_list(table: &View<'_>) -> Batch
+    ensures { result ≡ refused_batch (long_number (table_of table.now)) }
 {
-    if table::is_sound(shape, columns) {
+    if table.is_sound() {
         return batch_answer::refused_batch(2);
     }
     batch_answer::refused_batch(1)
 }
 
-// Looks a list of ids up for a tenant on a table whose columns are borrowed. The caller counts the servers that were opened.
-pub fn lookup_batch_in<'a>(
-    shape: Shape,
-    columns: Columns<'a>,
-    medium: &[u32],
-    tenant: u32,
-    ids: &[u32],
-) -> Batch
-    requires { Whole columns }
-    ensures { result ≡ batch_reply (table_of shape columns.entry) medium.now tenant ids.now }
+// The servers that a batch goes through: all, or none where the tests refuse every id.
+fn searched(number: u32, count: usize) -> usize
+    ensures { result ≡ cond (number == 0) count 0 }
 {
-    let used = columns[1];
-    let numerators = columns[2];
-    let denominators = columns[3];
+    if number == 0 { count } else { 0 }
+}
+
+// Looks a list of ids up for a tenant on a table that is lent. The caller counts the servers that were opened.
+pub fn lookup_batch_in(table: &View<'_>, medium: &[u32], tenant: u32, ids: &[u32]) -> Batch
+    ensures { result ≡ batch_reply (table_of table.now) medium.now tenant ids.now }
+{
     let n = ids.len();
     if n > MAX_IDS {
-        return refuse_list(shape, columns);
+        return refuse_list(table);
     }
-    let number = replies::check_number(checks::ready(shape, columns, medium, false, false));
-    let servers = if number == 0 { shape.count } else { 0 };
+    let number = replies::check_number(&checks::ready(table, medium, false, false));
+    let servers = searched(number, table.shape.count);
     let steps = Steps::new();
     let mut parts = batch_begin::begin(number, tenant, ids);
     let mut mounts: usize = 0;
-    let mut k = servers;
-    while 0 < k {
-        k -= 1;
-        let read = Fraction {
-            num: numerators[k],
-            den: denominators[k],
-        };
-        parts = batch_steps::step_all(parts, read, &steps, shape, used[k], medium, ids, k);
+    for k in (0..servers).rev() {
+        batch_steps::step_all(&mut parts, table, &steps, medium, ids, k);
         if batch_answer::has(&parts.ends, n, k as u16 + 1) {
             mounts += 1;
         }
@@ -76,25 +59,13 @@ pub fn lookup_batch_in<'a>(
     }
 }
 
-// Looks a list of ids up for a tenant on a table by value.
-pub fn lookup_batch(table: Table, medium: &[u32], tenant: u32, ids: &[u32]) -> BatchLookedUp
-    ensures reply { result.batch ≡ batch_reply table medium.now tenant ids.now }
-    ensures table { result.table ≡ batch_table table medium.now tenant ids.now }
+// Looks a list of ids up for a tenant.
+#[tactic(auto, unfolding(crate::specs::Batch::batch_table, batch_answer::specs::Answer::opened_in))]
+pub fn lookup_batch(table: &mut Table, medium: &[u32], tenant: u32, ids: &[u32]) -> Batch
+    ensures reply { result ≡ batch_reply table.old medium.now tenant ids.now }
+    ensures table { table.new ≡ batch_table table.old medium.now tenant ids.now }
 {
-    let shape = Shape {
-        capacity: table.capacity,
-        salt: table.salt,
-        count: table.count,
-    };
-    let columns: Columns = [
-        &table.weights,
-        &table.used,
-        &table.numerators,
-        &table.denominators,
-        &table.counters,
-    ];
-    let batch = lookup_batch_in(shape, columns, medium, tenant, ids);
-    let opened = batch_answer::sum(&batch.opened);
-    let next = upkeep::with_opened(table, tenant, opened);
-    BatchLookedUp { batch, table: next }
+    let batch = lookup_batch_in(&table.view(), medium, tenant, ids);
+    upkeep::add_opened(table, tenant, batch_answer::sum(&batch.opened));
+    batch
 }

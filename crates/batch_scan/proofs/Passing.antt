@@ -7,9 +7,10 @@ use mathlib.Core.List.{List}
 use Rattle.std.specs.Prelude.{Option, Some}
 use native.Mathlib.Numerals.{add-one}
 use native.Mathlib.Omega.{arith}
-use lib.ListN.{length, set}
+use lib.ListN.{length, set, take, length-take}
 use lib.Seq.{get_or-set_same, get_or-set_other}
 use lib.Dec.{eqb}
+use Rattle.std.proofs.lemmas.List.{get_or-take}
 use borrow.Author.Tests.{eqb-true, eqb-false, eq-eqb, ne_eqb}
 use Rattle.lists.specs.Below.{nth, highest, some_below, set_below}
 use Rattle.lists.proofs.Tests.{by_bool, true-not-false, at-or-else}
@@ -96,28 +97,30 @@ module _ (m : List ℕ) (base : ℕ) (ids : List ℕ) (n : ℕ) where
           rw (value, last, add-one (j - 1)) (met_next (eqb (nth m a) (nth ids i)) (j - 1) (nth x i) (highest (bearing m base (nth ids i)) (j - 1)));
     }
 
-  -- a block of any size below j, which begins at a
-  pub passed-block : (filter : List ℕ) → Covers filter ids n → (size j a : ℕ) (x : List ℕ) → size ≤ j → a ≡ base + entry_words * (j - size)
-      → some_below (λ k. is_set filter (nth m (a + entry_words * k))) size ≡ false → Passed m base ids n (j - size) j x x
-  passed-block filter c size j a x l place d = record {
+  -- a block of any size from entry low on, which begins at a
+  pub passed-block : (filter : List ℕ) → Covers filter ids n → (size low a : ℕ) (x : List ℕ) → a ≡ base + entry_words * low
+      → some_below (λ k. is_set filter (nth m (a + entry_words * k))) size ≡ false → Passed m base ids n low (low + size) x x
+  passed-block filter c size low a x place d = record {
     long = refl;
-    each = λ i b. ap (met_or (nth x i)) (sym (highest-below (bearing m base (nth ids i)) j (j - size) (omega arith) (λ k f t. none-borne i b k f t)));
+    each = λ i b. ap (met_or (nth x i)) (sym (highest-below (bearing m base (nth ids i)) (low + size) low (omega arith) (λ k f t. none-borne i b k f t)));
   }
     where
-      none-borne : (i : ℕ) → i < n → (k : ℕ) → j - size ≤ k → k < j → bearing m base (nth ids i) k ≡ false
-      none-borne i b k f t = no_slot (a + entry_words * (k - (j - size))) k (omega arith) filter c
-          (some_below-out (λ s. is_set filter (nth m (a + entry_words * s))) size d (k - (j - size)) (omega arith)) i b
+      none-borne : (i : ℕ) → i < n → (k : ℕ) → low ≤ k → k < low + size → bearing m base (nth ids i) k ≡ false
+      none-borne i b k f t = no_slot (a + entry_words * (k - low)) k (omega arith) filter c
+          (some_below-out (λ s. is_set filter (nth m (a + entry_words * s))) size d (k - low) (omega arith)) i b
 
 -- an entry of a server, by the server's first word
 bearing-live : (capacity used : ℕ) (m : List ℕ) (id k base j : ℕ) → base ≡ server_at capacity k → j < used → bearing m base id j ≡ live capacity used m id k j
 unfolding bearing entry_at
 bearing-live capacity used m id k base j place b = rw place (sym (live_below capacity used m id k j b))
 
--- all entries of a server were passed, and no id had met one before
-pub newest-all : (capacity used : ℕ) (m ids : List ℕ) (k n base : ℕ) (x y : List ℕ) → base ≡ server_at capacity k → ((i : ℕ) → nth x i ≡ 0)
-    → Passed m base ids n 0 used x y → NewestOf capacity used m ids k n y
+-- all entries of a server were passed for the first n ids, and none had met one before
+pub newest-all : (capacity used : ℕ) (m ids : List ℕ) (k n base : ℕ) (x y : List ℕ) → base ≡ server_at capacity k → ((i : ℕ) → nth x i ≡ 0) → n ≤ length ids
+    → Passed m base (take n ids) (length (take n ids)) 0 used x y → NewestOf capacity used m ids k n y
 unfolding highest met_or
-newest-all capacity used m ids k n base x y place zeros p = record {
+newest-all capacity used m ids k n base x y place zeros long p = record {
   each = λ i l.
-      p.each i l ∙ rw (zeros i) (highest-cong (bearing m base (nth ids i)) (live capacity used m (nth ids i) k) used (λ j b. bearing-live capacity used m (nth ids i) k base j place b));
+      let same : nth (take n ids) i ≡ nth ids i = get_or-take n ids i 0 l in
+      rw same at (p.each i (rw (length-take n ids) (omega arith)))
+      ∙ rw (zeros i) (highest-cong (bearing m base (nth ids i)) (live capacity used m (nth ids i) k) used (λ j b. bearing-live capacity used m (nth ids i) k base j place b));
 }

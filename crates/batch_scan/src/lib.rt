@@ -24,29 +24,24 @@ fn slot(word: u32) -> usize
     (word % 4096) as usize
 }
 
-// Sets the slots of the first `n` ids.
-fn fill(filter: &mut [u8; SLOTS], ids: &[u32; MAX_IDS], n: usize)
-    requires n_le_max_ids { n ≤ max_ids }
-    requires filter_len { length filter.old ≡ slots }
-    ensures { Covers filter.new ids.now n }
+// Sets the slots of the ids.
+fn fill(filter: &mut [u8; SLOTS], ids: &[u32])
+    requires { length filter.old ≡ slots }
+    ensures { Covers filter.new ids.now (length ids.now) }
 {
-    let mut i: usize = 0;
-    while i < n {
-        filter[slot(ids[i])] = 1;
-        i += 1;
+    for id in ids {
+        filter[slot(*id)] = 1;
     }
 }
 
-// Whether the slot of one of the entries of a block is set. The block begins at an address.
+// Whether the slot of one of the entries of a block is set. The block begins at an address. It looks at every entry, whatever it finds.
 fn touches(filter: &[u8; SLOTS], medium: &[u32], at: usize) -> bool
     requires { at + entry_words * block ≤ length medium.now }
     ensures { result ≡ some_below (λ j. is_set filter.now (nth medium.now (at + entry_words * j))) block }
 {
     let mut seen = false;
-    let mut j: usize = 0;
-    while j < BLOCK {
-        seen = (filter[slot(medium[at + ENTRY_WORDS * j])] != 0) | seen;
-        j += 1;
+    for j in 0..BLOCK {
+        seen |= filter[slot(medium[at + ENTRY_WORDS * j])] != 0;
     }
     seen
 }
@@ -62,16 +57,14 @@ fn meet_one(word: u32, id: u32, number: u32, entry: u32) -> u32
     }
 }
 
-// Meets an entry without a mark, which has this id's word, for each of the first `n` ids. `entry` is one more than its number.
-fn meet(newest: &mut [u32; MAX_IDS], ids: &[u32; MAX_IDS], n: usize, word: u32, entry: u32)
-    requires { n ≤ max_ids }
+// Meets an entry without a mark, which has this id's word, for each of the ids. `entry` is one more than its number.
+fn meet(newest: &mut [u32; MAX_IDS], ids: &[u32], word: u32, entry: u32)
+    requires { length ids.now ≤ max_ids }
     ensures { newest.new
-        ≡ set_below (λ i. met_by (eqb word (nth ids.now i)) entry (nth newest.old i)) n newest.old }
+        ≡ set_below (λ i. met_by (eqb word (nth ids.now i)) entry (nth newest.old i)) (length ids.now) newest.old }
 {
-    let mut i: usize = 0;
-    while i < n {
-        newest[i] = meet_one(word, ids[i], newest[i], entry);
-        i += 1;
+    for (i, id) in ids.iter().enumerate() {
+        newest[i] = meet_one(word, *id, newest[i], entry);
     }
 }
 
@@ -80,27 +73,24 @@ fn meet(newest: &mut [u32; MAX_IDS], ids: &[u32; MAX_IDS], n: usize, word: u32, 
 fn pass(
     newest: &mut [u32; MAX_IDS],
     filter: &[u8; SLOTS],
-    ids: &[u32; MAX_IDS],
-    n: usize,
+    ids: &[u32],
     medium: &[u32],
     base: usize,
     low: usize,
     high: usize,
 )
-    requires n_le_max_ids { n ≤ max_ids }
+    requires ids_len_bound { length ids.now ≤ max_ids }
     requires newest_len { length newest.old ≡ max_ids }
-    requires covers { Covers filter.now ids.now n }
+    requires covers { Covers filter.now ids.now (length ids.now) }
     requires low_le_high { (low ≤ high) × (high ≤ max_capacity) }
     requires high_in_bounds { base + entry_words * high ≤ length medium.now }
-    ensures { Passed medium.now base ids.now n low high newest.old newest.new }
+    ensures { Passed medium.now base ids.now (length ids.now) low high newest.old newest.new }
 {
-    let mut j = high;
-    while low < j {
-        j -= 1;
+    for j in (low..high).rev() {
         let at = base + ENTRY_WORDS * j;
         let word = medium[at];
         if (filter[slot(word)] != 0) & (medium[at + MARK_PLACE] == BLANK) {
-            meet(newest, ids, n, word, j as u32 + 1);
+            meet(newest, ids, word, j as u32 + 1);
         }
     }
 }
@@ -110,28 +100,26 @@ fn pass(
 fn pass_all(
     newest: &mut [u32; MAX_IDS],
     filter: &[u8; SLOTS],
-    ids: &[u32; MAX_IDS],
-    n: usize,
+    ids: &[u32],
     medium: &[u32],
     base: usize,
     used: usize,
 )
-    requires n_le_max_ids { n ≤ max_ids }
+    requires ids_len_bound { length ids.now ≤ max_ids }
     requires newest_len { length newest.old ≡ max_ids }
-    requires covers { Covers filter.now ids.now n }
+    requires covers { Covers filter.now ids.now (length ids.now) }
     requires used_le_max_capacity { used ≤ max_capacity }
     requires used_in_bounds { base + entry_words * used ≤ length medium.now }
-    ensures { Passed medium.now base ids.now n 0 used newest.old newest.new }
+    ensures { Passed medium.now base ids.now (length ids.now) 0 used newest.old newest.new }
 {
-    let mut j = used;
-    while BLOCK <= j {
-        let top = j;
-        j -= BLOCK;
-        if touches(filter, medium, base + ENTRY_WORDS * j) {
-            pass(newest, filter, ids, n, medium, base, j, top);
+    let rest = used % BLOCK;
+    for b in (0..used / BLOCK).rev() {
+        let low = rest + BLOCK * b;
+        if touches(filter, medium, base + ENTRY_WORDS * low) {
+            pass(newest, filter, ids, medium, base, low, low + BLOCK);
         }
     }
-    pass(newest, filter, ids, n, medium, base, 0, j);
+    pass(newest, filter, ids, medium, base, 0, rest);
 }
 
 // The newest entry of each of the first `n` ids on a server.
@@ -149,9 +137,10 @@ pub fn newest_of(
     ensures { NewestOf capacity used medium.now ids.now server n result }
 {
     let base = medium::server_at(capacity as usize, server);
+    let sought = &ids[..n];
     let mut filter: [u8; SLOTS] = [0; SLOTS];
-    fill(&mut filter, ids, n);
+    fill(&mut filter, sought);
     let mut newest: [u32; MAX_IDS] = [0; MAX_IDS];
-    pass_all(&mut newest, &filter, ids, n, medium, base, used as usize);
+    pass_all(&mut newest, &filter, sought, medium, base, used as usize);
     newest
 }

@@ -1,7 +1,7 @@
 -- A batch step by step: what the code puts together for one id at one server, and for one position more.
 -- Assumes nothing.
 use Prim.Native.Nat.{ℕ, suc, ◌+◌, ◌<◌}
-use mathlib.Core.Path.{◌≡◌, refl, sym, ap, ◌∙◌}
+use mathlib.Core.Path.{◌≡◌, sym, ap, ◌∙◌}
 use mathlib.Core.Logic.{◌≢◌}
 use mathlib.Core.Bool.{Bool, true, false, cond}
 use mathlib.Core.List.{List}
@@ -21,33 +21,12 @@ use Rattle.replies.specs.declared.Reply.{Reply}
 use Rattle.lookup.specs.Lookup.{met_reply}
 use Rattle.search.proofs.Searches.{highest-at}
 use Rattle.batch_begin.specs.declared.Parts.{Parts}
-use Rattle.batch_steps.specs.declared.Newest.{Newest}
-use Rattle.batch_steps.specs.declared.Newest.TheVariants.{Entry, Nothing}
 use Rattle.batch_steps.specs.declared.Progress.{Progress}
-use Rattle.batch_steps.specs.Steps.{newest_by, visited, stepped, progress_at, with_parts, stepped_at}
+use Rattle.batch_steps.specs.Steps.{visited, stepped, progress_at, with_parts, stepped_at}
 
--- what the search of a server found, by its answer
-module _ (o : Option ℕ) {n : Newest} (e : n ≡ newest_by o) where
-  newest-some : (j : ℕ) → n ≡ Entry j → o ≡ Some j
-  unfolding newest_by
-  newest-some j d = go o refl
-    where
-      go : (p : Option ℕ) → o ≡ p → o ≡ Some j
-      go None q = let h : n ≡ Nothing = rw q at e in let z : ◌≡◌ {A = ℕ} 0 1 = cc in absurd (omega arith)
-      go (Some i) q = let h : n ≡ Entry i = rw q at e in let s : i ≡ j = cc in q ∙ ap Some s
-
-  newest-none : n ≡ Nothing → o ≡ None
-  unfolding newest_by
-  newest-none d = go o refl
-    where
-      go : (p : Option ℕ) → o ≡ p → o ≡ None
-      go None q = q
-      go (Some i) q = let h : n ≡ Entry i = rw q at e in let z : ◌≡◌ {A = ℕ} 0 1 = cc in absurd (omega arith)
-
--- an entry that it answers is used
-pub newest-used : (capacity used : ℕ) (m : List ℕ) (id k : ℕ) {n : Newest} → n ≡ newest_by (highest (live capacity used m id k) used)
-    → (j : ℕ) → n ≡ Entry j → j < used
-newest-used capacity used m id k f j g = (highest-at _ used j (newest-some _ f j g)).0
+-- the newest entry of an id is used
+pub newest-used : (capacity used : ℕ) (m : List ℕ) (id k : ℕ) {o : Option ℕ} → o ≡ highest (live capacity used m id k) used → (j : ℕ) → o ≡ Some j → j < used
+newest-used capacity used m id k e j g = (highest-at _ used j (sym e ∙ g)).0
 
 -- server k for an id with this part so far
 module _ (read : Fraction) (shape : Shape) (used : ℕ) (m : List ℕ) (id k : ℕ) (p : Progress) where
@@ -68,16 +47,16 @@ module _ (read : Fraction) (shape : Shape) (used : ℕ) (m : List ℕ) (id k : �
     pub step-skipped : r ≡ false → p ≡ next_part
     step-skipped d = sym (step-tested false d)
 
-    -- it is opened, and n is what its search answers
-    module _ (d : r ≡ true) {n : Newest} (f : n ≡ newest_by (highest (live shape.capacity used m id k) used)) where
-      pub step-passed : n ≡ Nothing → record { refusal = 8; value = 0; opened = p.opened + 1; end = k + 1 } ≡ next_part
+    -- it is opened, and o is its newest entry
+    module _ (d : r ≡ true) {o : Option ℕ} (f : o ≡ highest (live shape.capacity used m id k) used) where
+      pub step-passed : o ≡ None → record { refusal = 8; value = 0; opened = p.opened + 1; end = k + 1 } ≡ next_part
       unfolding visited
-      step-passed g = sym (step-tested true d ∙ rw (newest-none _ f g, add-one p.opened, add-one k))
+      step-passed g = sym (step-tested true d ∙ rw (sym f ∙ g, add-one p.opened, add-one k))
 
-      pub step-met : (j : ℕ) → n ≡ Entry j → {y z : Reply} → y ≡ z → z ≡ met_reply shape.capacity m (p.opened + 1) (Some (record { server = k; entry = j }))
+      pub step-met : (j : ℕ) → o ≡ Some j → {y z : Reply} → y ≡ z → z ≡ met_reply shape.capacity m (p.opened + 1) (Some (record { server = k; entry = j }))
           → record { refusal = y.refusal; value = y.value; opened = p.opened + 1; end = k + 1 } ≡ next_part
       unfolding visited
-      step-met j g h i = sym (step-tested true d ∙ rw (newest-some _ f j g, h, i, add-one p.opened, add-one k))
+      step-met j g h i = sym (step-tested true d ∙ rw (sym f ∙ g, h, i, add-one p.opened, add-one k))
 
 -- server k for the ids below n
 module _ (read : Fraction) (shape : Shape) (used : ℕ) (m ids : List ℕ) (k : ℕ) (parts : Parts) (n : ℕ) {next : Parts}

@@ -8,14 +8,7 @@ use Rattle.medium.specs.Entry.{live}
 use Rattle.table.specs.declared.Shape.{Shape}
 use Rattle.lookup.specs.Lookup.{met_reply}
 use Rattle.batch_begin.specs.declared.Parts.{Parts}
-use Rattle.batch_steps.specs.declared.Newest.{Newest}
-use Rattle.batch_steps.specs.declared.Newest.TheVariants.{Entry, Nothing}
 use Rattle.batch_steps.specs.declared.Progress.{Progress}
-
--- what the search of one server answers
-unfoldable pub newest_by : Option ℕ → Newest
-newest_by None = Nothing
-newest_by (Some j) = Entry j
 
 -- server k is opened for an id, and `opened` is the number of servers opened with it; an entry there ends the search
 unfoldable pub visited : ℕ → List ℕ → ℕ → ℕ → Option ℕ → Progress

@@ -11,9 +11,9 @@ use native.Mathlib.Omega.{arith}
 use lib.ListN.{length, length-append}
 use Rattle.lists.specs.Below.{nth, upward}
 use Rattle.lists.proofs.Tests.{by_bool}
-use Rattle.medium.specs.Entry.{entry_at, mark_at, bears_at, live}
+use Rattle.medium.specs.Entry.{entry_at, mark_at, bears_at, live, Inside}
 use Rattle.medium.specs.Burn.{marks_on}
-use Rattle.medium.proofs.Places.{entry-on}
+use Rattle.medium.proofs.Places.{entry-on, entries-inside}
 use Rattle.medium.proofs.Entries.{live_below}
 use Rattle.marking.specs.Run.{marks_in}
 
@@ -67,7 +67,11 @@ unfolding marks_in bears_at
 marks_in-cong m m' id from zero h = refl
 marks_in-cong m m' id from (suc n) h = rw (marks_in-cong m m' id from n h, h (from + 3 * n) (omega arith), h (from + 3 * n + 2) (omega arith))
 
--- a server's used entries are one run
+-- a server's used entries lie inside the medium
+pub server_inside : (capacity used : ℕ) (m : List ℕ) (k : ℕ) {first : ℕ} → first ≡ entry_at capacity k 0 → Inside capacity k m → used ≤ capacity → first + 3 * used ≤ length m
+server_inside capacity used m k place i l = omega (arith, place, entries-inside capacity k 0 used m i (omega arith))
+
+-- and are one run
 module _ (capacity used : ℕ) (m : List ℕ) (id k : ℕ) where
   server-below : (n : ℕ) → n ≤ used → map (mark_at capacity k) (upward (live capacity used m id k) n) ≡ marks_in m id (entry_at capacity k 0) n
   unfolding marks_in upward

@@ -12,6 +12,7 @@ use scan::{BLOCK_ENTRIES, BLOCK_WORDS};
 
 // Burns a mark of this content on each of the `n` entries from an address on that bears an id, the lowest first, while the number of
 // marks is below `burns`: so many were counted before. It answers these with those entries added, burned or not.
+#[tactic(auto, using(crate::proofs::Marked::few))]
 fn mark_run(
     medium: &mut [u32],
     from: usize,
@@ -29,23 +30,21 @@ fn mark_run(
         ≡ burn_all medium.old (take (burns - counted) (invalidations content (marks_in medium.old id from n))) }
 {
     let mut marks = counted;
-    let mut i: usize = 0;
-    let mut at = from;
-    while i < n {
+    for i in 0..n {
+        let at = from + ENTRY_WORDS * i;
         if medium::bears(medium, at, id) {
             if marks < burns {
                 medium[at + MARK_PLACE] = MARK_TAG + content;
             }
             marks += 1;
         }
-        at += ENTRY_WORDS;
-        i += 1;
     }
     marks
 }
 
 // Burns a mark of this content on each live entry of an id on a server, the lowest first, while the number of marks is below `burns`:
 // `n` were counted before. It answers these with the live entries added, burned or not.
+#[tactic(auto, using(crate::proofs::Runs::server_inside, crate::proofs::Marked::few))]
 pub fn invalidate_server(
     medium: &mut [u32],
     capacity: usize,
@@ -64,15 +63,16 @@ pub fn invalidate_server(
     ensures words { medium.new
         ≡ burn_all medium.old (take (burns - n) (invalidations content (marks_on capacity used medium.old id server))) }
 {
+    let first = medium::entry_at(capacity, server, 0);
+    let blocks = used / BLOCK_ENTRIES;
     let mut marks = n;
-    let mut left = used;
-    let mut at = medium::entry_at(capacity, server, 0);
-    while BLOCK_ENTRIES <= left {
+    for block in 0..blocks {
+        let at = first + BLOCK_WORDS * block;
         if scan::has(medium, at, BLOCK_WORDS, id) {
             marks = mark_run(medium, at, BLOCK_ENTRIES, id, content, burns, marks);
         }
-        at += BLOCK_WORDS;
-        left -= BLOCK_ENTRIES;
     }
+    let at = first + BLOCK_WORDS * blocks;
+    let left = used % BLOCK_ENTRIES;
     mark_run(medium, at, left, id, content, burns, marks)
 }

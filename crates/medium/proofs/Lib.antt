@@ -2,4 +2,3 @@ pub mod Places
 pub mod Entries
 pub mod Burns
 pub mod Marks
-mod Invalidated

@@ -4,7 +4,4 @@ use Rattle.batch.proofs.BatchParts.{BatchFrom}
 use Rattle.batch.proofs.lookup_batch_in.Given as goal
 
 abbrev pub invariant-loop-k : goal.invariant-loop-k
-invariant-loop-k l = BatchFrom (table_of l.shape l.t-2) l.medium l.tenant l.ids l.k l.parts l.mounts
-
-abbrev pub decreases-loop-k : goal.decreases-loop-k
-decreases-loop-k l = l.k
+invariant-loop-k l = BatchFrom (table_of l.table) l.medium l.tenant l.ids l.k l.parts l.mounts

@@ -1,15 +1,14 @@
 -- `batch_scan::meet` meets its contract. The invariant: the numbers of the ids passed are those that it ensures, and the rest as before.
-use mathlib.Core.Path.{refl}
-use borrow.Author.Rules.{rules}
+use Rattle.std.proofs.Common.{refl}
 use Rattle.lists.specs.Below.{set_below}
 use Rattle.batch_scan.proofs.Passing.{meet-more}
 use Rattle.batch_scan.proofs.meet.Goals as goal
 
 pub loop-i-init : goal.loop-i-init
 unfolding set_below
-loop-i-init c = (search rules, refl)
+loop-i-init c = refl
 
 pub loop-i-preserved : goal.loop-i-preserved
 loop-i-preserved c =
     let a = c.args in
-    (search rules, meet-more a.word a.entry a.ids.now a.newest.now c.loop-i.newest c.loop-i.i c.meet_one.result c.loop-i.invariant.1 c.meet_one.ensures)
+    meet-more a.word a.entry a.ids.now a.newest.now c.loop-i.newest c.loop-i.i c.meet_one.result c.loop-i.invariant c.meet_one.ensures

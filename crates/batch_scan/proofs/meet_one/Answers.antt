@@ -1,7 +1,6 @@
 -- `batch_scan::meet_one` meets its contract.
-use mathlib.Core.Path.{◌≡◌}
-use mathlib.Core.Bool.{true, false, ◌&&◌}
-use lib.Dec.{eqb}
+use Rattle.std.proofs.Common.{◌≡◌, true, false, eqb}
+use mathlib.Core.Bool.{◌&&◌}
 use Rattle.batch_scan.specs.Scan.{met_by}
 use Rattle.batch_scan.proofs.meet_one.Goals as goal
 

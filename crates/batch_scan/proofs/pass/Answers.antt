@@ -1,11 +1,6 @@
 -- `batch_scan::pass` meets its contract. The invariant: the entries from `j` on are passed.
-use Prim.Native.Nat.{◌+◌, ◌*◌, ◌-◌, ◌≤◌}
-use mathlib.Core.Path.{refl}
+use Rattle.std.proofs.Common.{◌+◌, ◌*◌, ◌-◌, ◌≤◌, refl, length, eqb, arith, rules}
 use mathlib.Core.Bool.{not}
-use native.Mathlib.Omega.{arith}
-use lib.ListN.{length}
-use lib.Dec.{eqb}
-use borrow.Author.Rules.{rules}
 use borrow.Author.Tests.{eqb-true}
 use Rattle.lists.specs.Below.{nth}
 use Rattle.lists.proofs.Tests.{and_r}
@@ -15,18 +10,18 @@ use Rattle.batch_scan.proofs.pass.Goals as goal
 pub loop-j-preserved-then-filter-slot : goal.loop-j-preserved-then-filter-slot
 loop-j-preserved-then-filter-slot c =
     let a = c.args in
-    let long : a.n ≤ length c.loop-j.newest = omega (arith, c.loop-j.invariant.2.long) in (
+    let n = length a.ids.now in
+    let long : length a.ids.now ≤ length c.loop-j.newest = omega (arith, c.loop-j.invariant.1.long) in (
       search rules,
-      search rules,
-      passed_then _ _ _ _ c.loop-j.invariant.2
-          (passed-met a.medium.now a.base a.ids.now a.n c.loop-j.j (a.base + 3 * (c.loop-j.j - 1)) (search rules) refl c.loop-j.newest c.meet.new.newest long (eqb-true _ _ (and_r (not (eqb (nth a.filter.now c.slot.result) 0)) _ c.if-filter-slot.true)) c.meet.ensures),
+      passed_then _ _ _ _ c.loop-j.invariant.1
+          (passed-met a.medium.now a.base a.ids.now n c.loop-j.j (a.base + 3 * (c.loop-j.j - 1)) (search rules) refl c.loop-j.newest c.meet.new.newest long (eqb-true _ _ (and_r (not (eqb (nth a.filter.now c.slot.result) 0)) _ c.if-filter-slot.true)) c.meet.ensures),
     )
 
 pub loop-j-preserved : goal.loop-j-preserved
 loop-j-preserved c =
-    let a = c.args in (
+    let a = c.args in
+    let n = length a.ids.now in (
       search rules,
-      search rules,
-      passed_then _ _ _ _ c.loop-j.invariant.2
-          (passed_over a.medium.now a.base a.ids.now a.n c.loop-j.j (a.base + 3 * (c.loop-j.j - 1)) (search rules) refl a.filter.now (search rules) c.loop-j.newest c.slot.result c.slot.ensures c.if-filter-slot.false),
+      passed_then _ _ _ _ c.loop-j.invariant.1
+          (passed_over a.medium.now a.base a.ids.now n c.loop-j.j (a.base + 3 * (c.loop-j.j - 1)) (search rules) refl a.filter.now (search rules) c.loop-j.newest c.slot.result c.slot.ensures c.if-filter-slot.false),
     )

@@ -1,16 +1,13 @@
--- `batch_scan::pass_all` meets its contract. The invariant: the entries from `j` on are passed.
-use Prim.Native.Nat.{◌+◌, ◌*◌, ◌-◌}
-use mathlib.Core.Path.{refl, sym, ◌∙◌}
-use borrow.Author.Rules.{rules}
+-- `batch_scan::pass_all` meets its contract. The invariant: the entries of the blocks from `b` on are passed.
+use Rattle.std.proofs.Common.{◌≡◌, ◌+◌, ◌*◌, ◌-◌, ◌%◌, length, refl, sym, ◌∙◌, arith, rules}
 use Rattle.batch_scan.specs.Scan.{block}
 use Rattle.batch_scan.proofs.Passing.{passed_then, passed-block}
 use Rattle.batch_scan.proofs.pass_all.Goals as goal
 
-pub loop-j-preserved : goal.loop-j-preserved
-loop-j-preserved c =
-    let a = c.args in (
-      search rules,
-      passed_then _ _ _ _ c.loop-j.invariant.1
-          (passed-block a.medium.now a.base a.ids.now a.n a.filter.now (search rules) block c.loop-j.j (a.base + 3 * (c.loop-j.j - block)) c.loop-j.newest (search rules) refl
-          (sym c.touches.ensures ∙ c.if-touches.false)),
-    )
+pub loop-b-preserved : goal.loop-b-preserved
+loop-b-preserved c =
+    let a = c.args in
+    let low = a.used % 8 + block * (c.loop-b.b - 1) in
+    let top : a.used % 8 + block * c.loop-b.b ≡ a.used % 8 + block * (c.loop-b.b - 1) + block = omega arith in
+    passed_then _ _ _ _ (rw top at c.loop-b.invariant)
+    (passed-block a.medium.now a.base a.ids.now (length a.ids.now) a.filter.now (search rules) block low (a.base + 3 * low) c.loop-b.newest refl (sym c.touches.ensures ∙ c.if-touches.false))

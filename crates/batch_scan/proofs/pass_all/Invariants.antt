@@ -1,11 +1,7 @@
--- `batch_scan::pass_all` meets its contract. The invariant: the entries from `j` on are passed.
-use Prim.Native.Nat.{◌≤◌}
-use Rattle.batch_scan.specs.Scan.{Passed}
+-- `batch_scan::pass_all` meets its contract. The invariant: the entries of the blocks from `b` on are passed.
+use Rattle.std.proofs.Common.{◌+◌, ◌*◌, length}
+use Rattle.batch_scan.specs.Scan.{block, Passed}
 use Rattle.batch_scan.proofs.pass_all.Given as goal
 
-abbrev pub invariant-loop-j : goal.invariant-loop-j
-invariant-loop-j l =
-    (l.j ≤ l.used) × Passed l.medium l.base l.ids l.n l.j l.used l.initial.newest l.newest
-
-abbrev pub decreases-loop-j : goal.decreases-loop-j
-decreases-loop-j l = l.j
+abbrev pub invariant-loop-b : goal.invariant-loop-b
+invariant-loop-b l = Passed l.medium l.base l.ids (length l.ids) (l.rest + block * l.b) l.used l.initial.newest l.newest
