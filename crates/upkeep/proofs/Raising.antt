@@ -1,7 +1,7 @@
--- The loop of `with_weight`: after n servers it has the table with every ReadP below n raised.
+-- The loop of `set_weight`: after n servers it has the table with every ReadP below n raised.
 -- Assumes nothing.
 use Prim.Native.Nat.{ℕ, ◌+◌}
-use mathlib.Core.Path.{◌≡◌, sym, ap, ◌∙◌}
+use mathlib.Core.Path.{◌≡◌, sym, ap, ap₂, ◌∙◌}
 use mathlib.Core.Bool.{Bool, true, false, cond}
 use mathlib.Core.List.{List}
 use native.Mathlib.Numerals.{add-one}
@@ -46,17 +46,17 @@ module _ (t next : Table) (n : ℕ) (so_far : next ≡ raised_below t n) where
     pub sum_more : sum + weight_of next n ≡ total (weight_of t) (n + 1)
     sum_more = rw (total-more, s, same-weights)
 
-    module _ (write : Fraction) (w : write ≡ share_of n (weight_of next n) (sum + weight_of next n)) where
+    module _ (read write : Fraction) (r : read ≡ read_p next n) (w : write ≡ share_of n (weight_of next n) (sum + weight_of next n)) where
       -- the code's WriteP and its test
       write-is : write ≡ write_p (weight_of t) n
       unfolding write_p total
       write-is = rw (← s, ← same-weights) w
 
-      test-is : at_least (read_p next n) write ≡ at_least (read_p t n) (write_p (weight_of t) n)
-      test-is = ap (λ (u : Table). at_least (read_p u n) write) so_far ∙ rw (next-read t n, write-is)
+      test-is : at_least read write ≡ at_least (read_p t n) (write_p (weight_of t) n)
+      test-is = ap₂ at_least (r ∙ ap (λ (u : Table). read_p u n) so_far ∙ next-read t n) write-is
 
       -- the server keeps its pair where that is at least WriteP, and takes WriteP otherwise
-      pub raise-more : (b : Bool) → at_least (read_p next n) write ≡ b
+      pub raise-more : (b : Bool) → at_least read write ≡ b
           → cond b next (with_reads next (set next.numerators n write.num) (set next.denominators n write.den)) ≡ raised_below t (n + 1)
       unfolding raised_below raise set_below
       raise-more true e =

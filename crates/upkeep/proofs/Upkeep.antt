@@ -14,8 +14,15 @@ use Rattle.placement.specs.Rule.{write_p}
 use Rattle.placement.proofs.Fractions.{raise-is, fraction-eq}
 use Rattle.table.specs.declared.Table.{Table}
 use Rattle.table.specs.Parts.{weight_of, used_of, read_p}
-use Rattle.table.proofs.Soundness.{Arrays}
+use Rattle.table.specs.Sound.{sound}
+use Rattle.table.proofs.Soundness.{Arrays, sound-facts}
 use Rattle.upkeep.specs.Upkeep.{with_server, with_weight, one_more, with_entry, with_opened}
+
+-- the entries used of a server, and where it stands
+pub used_bounds : (t : Table) (k : ℕ) → sound t ≡ true → k < t.count → (used_of t k ≤ 65536) × (t.count ≤ 256)
+used_bounds t k e l =
+    let s = sound-facts t e in
+    let o = s.server k l in (omega arith, s.few)
 
 pub with_server-arrays : (t : Table) (weight : ℕ) → Arrays t → Arrays (with_server t weight)
 unfolding with_server
