@@ -1,6 +1,6 @@
 -- What recover leaves: a server's used by the words, and a table with another used for each server.
 -- Assumes nothing.
-use Prim.Native.Nat.{ℕ, zero, suc, ◌-◌, ◌≤◌, ◌<◌}
+use Prim.Native.Nat.{ℕ, zero, suc, ◌+◌, ◌-◌, ◌≤◌, ◌<◌}
 use mathlib.Core.Path.{◌≡◌, refl, sym, ap, ◌∙◌}
 use mathlib.Core.Bool.{Bool, true, false, cond, not}
 use mathlib.Core.List.{List, [], ◌∷◌}
@@ -114,22 +114,15 @@ with_used-same t f a few h =
 
 -- the loop over the entries of a server, from the highest down: what it finds is the server's used, if it was among the first n
 module _ (capacity : ℕ) (m : List ℕ) (k n : ℕ) (l : 0 < n) (left : used_on capacity m k ≡ past_last (touched capacity m k) n) where
-  -- an entry as the loop tests it
-  tested : (at : ℕ) (b : Bool) → at ≡ entry_at capacity k (n - 1) → b ≡ blank_run m at entry_words → touched capacity m k (n - 1) ≡ not b
+  pub used_next : (at : ℕ) (b : Bool) → at ≡ entry_at capacity k (n - 1) → b ≡ blank_run m at entry_words → used_on capacity m k ≡ cond b (past_last (touched capacity m k) (n - 1)) (n - 1 + 1)
   unfolding touched
-  tested at b e f = rw (f, e)
-
-  pub used-found : (at : ℕ) (b : Bool) → at ≡ entry_at capacity k (n - 1) → b ≡ blank_run m at entry_words → b ≡ false → n ≡ used_on capacity m k
-  used-found at b e f g = sym (left ∙ past_last-last (touched capacity m k) n true l (tested at b e f ∙ ap not g))
-
-  pub used-further : (at : ℕ) (b : Bool) → at ≡ entry_at capacity k (n - 1) → b ≡ blank_run m at entry_words → b ≡ true
-      → used_on capacity m k ≡ past_last (touched capacity m k) (n - 1)
-  used-further at b e f g = left ∙ past_last-last (touched capacity m k) n false l (tested at b e f ∙ ap not g)
+  used_next at true e f = left ∙ past_last-last (touched capacity m k) n false l (rw (← e, ← f))
+  used_next at false e f = omega (arith, left ∙ past_last-last (touched capacity m k) n true l (rw (← e, ← f)))
 
 -- nothing is left
-pub used-none : (capacity : ℕ) (m : List ℕ) (k n : ℕ) → n ≡ 0 → used_on capacity m k ≡ past_last (touched capacity m k) n → 0 ≡ used_on capacity m k
+pub used_none : (capacity : ℕ) (m : List ℕ) (k n : ℕ) → n ≡ 0 → used_on capacity m k ≡ past_last (touched capacity m k) n → 0 ≡ used_on capacity m k
 unfolding past_last
-used-none capacity m k n z left = sym (left ∙ ap (past_last (touched capacity m k)) z)
+used_none capacity m k n z left = sym (left ∙ ap (past_last (touched capacity m k)) z)
 
 -- where recover is accepted, the table is sound and the medium has the words of its servers
 pub record Recoverable (t : Table) (m : List ℕ) : Type 0 where

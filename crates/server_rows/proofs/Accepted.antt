@@ -1,18 +1,25 @@
--- What is known of an add_server and of a reweight that are accepted.
+-- What the tests of an add_server and of a reweight take for granted, and what is known where they are accepted.
 -- Assumes nothing.
-use Prim.Native.Nat.{ℕ, ◌≤◌, ◌<◌}
+use Prim.Native.Nat.{ℕ, ◌+◌, ◌*◌, ◌≤◌, ◌<◌}
 use mathlib.Core.Path.{◌≡◌}
 use mathlib.Core.Bool.{true, not}
 use mathlib.Core.List.{List}
+use native.Mathlib.Numerals.{add-one}
 use native.Mathlib.Omega.{arith}
 use lib.Dec.{leb, ltb, eqb}
 use borrow.Author.Tests.{ltb-false, leb-false, eqb-false, not-false}
+use Rattle.medium.specs.Entry.{server_at}
+use Rattle.medium.proofs.Places.{server-next}
 use Rattle.table.specs.declared.Table.{Table}
 use Rattle.table.specs.Sound.{sound}
 use Rattle.table.proofs.Soundness.{sound-facts}
 use Rattle.replies.specs.Refusal.{first_of}
 use Rattle.replies.proofs.Refusals.{passed}
 use Rattle.server_rows.specs.ServerRows.{add_server_rows, reweight_rows}
+
+-- where the words of the new server end
+pub server_more : (capacity k : ℕ) → server_at capacity (k + 1) ≡ server_at capacity k + 3 * capacity
+server_more capacity k = rw add-one (server-next capacity k)
 
 pub record ServerAccepted (t : Table) (weight : ℕ) : Type 0 where
   pub is_sound : sound t ≡ true

@@ -1,73 +1,70 @@
-// The tests before start, add_server and reweight, in the order of document 01's numbers. They borrow the table's columns, so
-// that none is copied.
+// The tests before start, add_server and reweight, in the order of document 01's numbers.
 #![tactic(auto)]
 
 ghost use Rattle.std.specs.Prelude.{◌≡◌};
-ghost use Rattle.table.specs.Parts.{table_of, Whole};
+ghost use Rattle.table.specs.Parts.{table_of};
 ghost use Rattle.replies.specs.Refusal.{first_of};
 ghost use Rattle.replies.specs.Reply.{check_number};
 ghost use Rattle.server_rows.specs.ServerRows.{start_rows, add_server_rows, reweight_rows};
 
 use limits::MAX_SERVERS;
-use replies::{Check, Refusal};
-use table::{Columns, Shape};
+use replies::Refusal;
+use table::View;
 
-pub fn start(capacity: u32, salt: u32) -> Check
+#[tactic(auto, unfolding(crate::specs::ServerRows::start_rows, replies::specs::Refusal::first_of, replies::specs::Reply::check_number, replies::specs::Reply::number_of))]
+pub fn start(capacity: u32, salt: u32) -> Result<(), Refusal>
     ensures { check_number result ≡ first_of (start_rows capacity salt) }
 {
     if !table::in_range(capacity, salt) {
-        return Check::Refused(Refusal::OutOfRange);
+        return Err(Refusal::OutOfRange);
     }
-    Check::Accepted
+    Ok(())
 }
 
-pub fn add_server<'a>(shape: Shape, columns: Columns<'a>, medium: &[u32], weight: u32) -> Check
-    requires { Whole columns }
-    ensures { check_number result ≡ first_of (add_server_rows (table_of shape columns.entry) medium.now weight) }
+#[tactic(auto, using(table::proofs::Soundness::sound_bounds, crate::proofs::Accepted::server_more), unfolding(crate::specs::ServerRows::add_server_rows, replies::specs::Refusal::first_of, replies::specs::Reply::check_number, replies::specs::Reply::number_of))]
+pub fn add_server(table: &View<'_>, medium: &[u32], weight: u32) -> Result<(), Refusal>
+    ensures { check_number result ≡ first_of (add_server_rows (table_of table.now) medium.now weight) }
 {
-    let capacity = shape.capacity;
-    let count = shape.count;
-    if !table::is_sound(shape, columns) {
-        return Check::Refused(Refusal::UnsoundTable);
+    if !table.is_sound() {
+        return Err(Refusal::UnsoundTable);
     }
-    if weight > capacity {
-        return Check::Refused(Refusal::OutOfRange);
+    if weight > table.shape.capacity {
+        return Err(Refusal::OutOfRange);
     }
+    let count = table.shape.count;
     if count == MAX_SERVERS {
-        return Check::Refused(Refusal::TooManyServers);
+        return Err(Refusal::TooManyServers);
     }
-    let entries = capacity as usize;
+    let entries = table.shape.capacity as usize;
     if medium.len() < medium::server_at(entries, count + 1) {
-        return Check::Refused(Refusal::ShortMedium);
+        return Err(Refusal::ShortMedium);
     }
     if !medium::is_blank(
         medium,
         medium::server_at(entries, count),
         medium::ENTRY_WORDS * entries,
     ) {
-        return Check::Refused(Refusal::NotBlank);
+        return Err(Refusal::NotBlank);
     }
-    Check::Accepted
+    Ok(())
 }
 
-pub fn reweight<'a>(shape: Shape, columns: Columns<'a>, server: usize, weight: u32) -> Check
-    requires { Whole columns }
-    ensures { check_number result ≡ first_of (reweight_rows (table_of shape columns.entry) server weight) }
+#[tactic(auto, using(table::proofs::Soundness::sound_bounds), unfolding(crate::specs::ServerRows::reweight_rows, replies::specs::Refusal::first_of, replies::specs::Reply::check_number, replies::specs::Reply::number_of))]
+pub fn reweight(table: &View<'_>, server: usize, weight: u32) -> Result<(), Refusal>
+    ensures { check_number result ≡ first_of (reweight_rows (table_of table.now) server weight) }
 {
-    let capacity = shape.capacity;
-    let count = shape.count;
-    if !table::is_sound(shape, columns) {
-        return Check::Refused(Refusal::UnsoundTable);
+    let capacity = table.shape.capacity;
+    if !table.is_sound() {
+        return Err(Refusal::UnsoundTable);
     }
     if weight > capacity {
-        return Check::Refused(Refusal::OutOfRange);
+        return Err(Refusal::OutOfRange);
     }
-    if count <= server {
-        return Check::Refused(Refusal::NoSuchServer);
+    if table.shape.count <= server {
+        return Err(Refusal::NoSuchServer);
     }
-    let used = columns[1];
-    if weight > capacity - used[server] {
-        return Check::Refused(Refusal::ExceedsFree);
+    if weight > capacity - table.used[server] {
+        return Err(Refusal::ExceedsFree);
     }
-    Check::Accepted
+    Ok(())
 }

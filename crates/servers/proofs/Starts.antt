@@ -4,12 +4,11 @@ use Prim.Native.Nat.{ℕ, ◌<◌}
 use mathlib.Core.Path.{◌≡◌, refl, sym, ap, ◌∙◌}
 use mathlib.Core.Logic.{◌≢◌}
 use native.Mathlib.Omega.{arith}
+use Rattle.std.specs.Prelude.{Result, Ok, Err}
 use Rattle.table.specs.declared.Table.{Table}
 use Rattle.table.proofs.Soundness.{Arrays, empty-arrays}
 use Rattle.replies.specs.Refusal.{first_of}
 use Rattle.replies.specs.declared.Refusal.{Refusal}
-use Rattle.replies.specs.declared.Check.{Check}
-use Rattle.replies.specs.declared.Check.TheVariants.{Accepted, Refused}
 use Rattle.replies.specs.declared.Reply.{Reply}
 use Rattle.replies.specs.Reply.{reply_of_check}
 use Rattle.replies.proofs.Refusals.{settle-either}
@@ -23,12 +22,12 @@ module _ (capacity salt : ℕ) where
   start-number = reply-number (start_rows capacity salt) _ refl
 
   -- its answer, matched on
-  module _ {c : Check} (is : reply_of_check c ≡ start_reply capacity salt) where
-    pub start-accepted : c ≡ Accepted → first_of (start_rows capacity salt) ≡ 0
+  module _ {A : Type 0} {c : Result A Refusal} (is : reply_of_check c ≡ start_reply capacity salt) where
+    pub start-accepted : {t : A} → c ≡ Ok t → first_of (start_rows capacity salt) ≡ 0
     unfolding reply_of_check
     start-accepted e = sym (ap (λ (r : Reply). r.refusal) (sym (ap reply_of_check e) ∙ is) ∙ start-number)
 
-    pub start-refused : {x : Refusal} → c ≡ Refused x → first_of (start_rows capacity salt) ≢ 0
+    pub start-refused : {x : Refusal} → c ≡ Err x → first_of (start_rows capacity salt) ≢ 0
     unfolding reply_of_check
     start-refused {x} e z = number-not-zero x (ap (λ (r : Reply). r.refusal) (sym (ap reply_of_check e) ∙ is) ∙ start-number ∙ z)
 

@@ -1,8 +1,7 @@
--- `recovery::recount` meets its contract. The invariant: the servers passed have their used by the words.
+-- `recovery::recount` meets its contract.
 use Prim.Native.Nat.{suc, ◌≤◌}
 use mathlib.Core.Path.{refl}
 use native.Mathlib.Omega.{arith}
-use borrow.Author.Rules.{rules}
 use Rattle.lists.specs.Below.{set_below}
 use Rattle.lists.proofs.Below.{set_below-more}
 use Rattle.medium.proofs.Places.{server-le}
@@ -12,7 +11,7 @@ use Rattle.recovery.proofs.recount.Goals as goal
 
 pub loop-k-init : goal.loop-k-init
 unfolding set_below
-loop-k-init c = (search rules, refl)
+loop-k-init c = refl
 
 pub used_on-requires : goal.used_on-requires
 used_on-requires c =
@@ -24,9 +23,7 @@ used_on-requires c =
     }
 
 pub overflow_cast-used : goal.overflow_cast-used
-overflow_cast-used c =
-    omega (arith, c.used_on.ensures, used_on-le c.args.capacity c.args.medium.now c.loop-k.k)
+overflow_cast-used c = omega (arith, used_on-le c.args.capacity c.args.medium.now c.loop-k.k)
 
 pub loop-k-preserved : goal.loop-k-preserved
-loop-k-preserved c =
-    (search rules, set_below-more (used_on c.args.capacity c.args.medium.now) c.loop-k.k c.args.used.now _ _ c.loop-k.invariant.1 c.used_on.ensures)
+loop-k-preserved c = set_below-more (used_on c.args.capacity c.args.medium.now) c.loop-k.k c.args.used.now _ _ c.loop-k.invariant c.used_on.ensures

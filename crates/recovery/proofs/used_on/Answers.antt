@@ -1,35 +1,18 @@
--- `recovery::used_on` meets its contract. The invariant: the server's used is among the first n entries.
+-- `recovery::used_on` meets its contract.
 use Prim.Native.Nat.{◌-◌}
-use mathlib.Core.Path.{refl}
+use mathlib.Core.Path.{sym}
 use native.Mathlib.Omega.{arith}
-use borrow.Author.Rules.{rules}
 use Rattle.medium.proofs.Places.{entry-inside}
-use Rattle.recovery.specs.Recovery.{used_on}
-use Rattle.recovery.proofs.Recovering.{used-found, used-further, used-none}
+use Rattle.recovery.proofs.Recovering.{used_next}
 use Rattle.recovery.proofs.used_on.Goals as goal
 
-pub loop-n-init : goal.loop-n-init
-unfolding used_on
-loop-n-init c = (search rules, refl)
-
 pub is_blank-requires : goal.is_blank-requires
-is_blank-requires c =
-    let n = c.loop-n.n in
-    omega (arith, c.entry_at-at.ensures, entry-inside c.args.capacity c.args.server (n - 1) 2 c.args.medium.now c.requires (omega arith) (omega arith))
+is_blank-requires c = omega (arith, entry-inside c.args.capacity c.args.server (c.loop-j.j - 1) 2 c.args.medium.now c.requires (omega arith) (omega arith))
 
 pub returns-then-not-is_blank : goal.returns-then-not-is_blank
 returns-then-not-is_blank c =
-    used-found c.args.capacity c.args.medium.now c.args.server c.loop-n.n (search rules) c.loop-n.invariant.1
-    c.entry_at-at.result c.is_blank.result c.entry_at-at.ensures c.is_blank.ensures c.if-not-is_blank.true
+    sym (rw c.if-not-is_blank.true at (used_next _ _ _ c.loop-j.j c.loop-j-test.true c.loop-j.invariant _ _ c.entry_at-at.ensures c.is_blank.ensures))
 
-pub loop-n-preserved : goal.loop-n-preserved
-loop-n-preserved c = (
-  search rules,
-  used-further c.args.capacity c.args.medium.now c.args.server c.loop-n.n (search rules) c.loop-n.invariant.1
-      c.entry_at-at.result c.is_blank.result c.entry_at-at.ensures c.is_blank.ensures c.if-not-is_blank.false,
-)
-
-pub returns : goal.returns
-returns c =
-    let a = c.args in
-    used-none a.capacity a.medium.now a.server c.loop-n.n (omega arith) c.loop-n.invariant.1
+pub loop-j-preserved : goal.loop-j-preserved
+loop-j-preserved c =
+    rw c.if-not-is_blank.false at (used_next _ _ _ c.loop-j.j c.loop-j-test.true c.loop-j.invariant _ _ c.entry_at-at.ensures c.is_blank.ensures)

@@ -1,46 +1,33 @@
 -- `servers::add_server` meets its contract: what the tests say, and the table with a server more.
-use mathlib.Core.Path.{◌≡◌, sym, ◌∙◌}
-use Rattle.replies.specs.Refusal.{first_of}
-use Rattle.replies.specs.Reply.{number_of, reply_of_server}
+use mathlib.Core.Path.{sym, ◌∙◌}
+use Rattle.std.proofs.lemmas.Result.{err_from_is_err_and}
+use Rattle.replies.specs.Reply.{check_number, reply_of_server}
 use Rattle.replies.proofs.Refusals.{settle-yes}
-use Rattle.replies.proofs.Answers.{check-refused, check-accepted, kept, reply-refused, reply-done}
-use Rattle.server_rows.specs.ServerRows.{add_server_rows}
+use Rattle.replies.proofs.Answers.{kept, reply-refused, reply-done}
 use Rattle.server_rows.proofs.Accepted.{add_server-accepted}
 use Rattle.servers.specs.Servers.{add_server_reply, add_server_table}
 use Rattle.servers.proofs.add_server.Goals as goal
 
-pub with_server-next-requires-clause-table_value : goal.with_server-next-requires-clause-table_value
-with_server-next-requires-clause-table_value c =
-    let s = add_server-accepted _ _ _ ((let accepted-here' : first_of ((let a = c.args in add_server_rows a.table a.medium.now a.weight)) ≡ 0 = check-accepted ((let a = c.args in add_server_rows a.table a.medium.now a.weight)) c.add_server-check.ensures c.in-Accepted.is in accepted-here')) in s.is_sound
+pub returns-in_err-add_server-clause-reply : goal.returns-in_err-add_server-clause-reply
+unfolding check_number reply_of_server add_server_reply
+returns-in_err-add_server-clause-reply c =
+    let p = err_from_is_err_and c.from_residual.result c.from_residual.ensures.1 in
+    rw (p.1, p.2) (reply-refused _ _ (rw c.view.ensures at c.in_err-add_server.ensures) _)
 
-pub with_server-next-requires-clause-count_lt_max_servers : goal.with_server-next-requires-clause-count_lt_max_servers
-with_server-next-requires-clause-count_lt_max_servers c =
-    let s = add_server-accepted _ _ _ ((let accepted-here' : first_of ((let a = c.args in add_server_rows a.table a.medium.now a.weight)) ≡ 0 = check-accepted ((let a = c.args in add_server_rows a.table a.medium.now a.weight)) c.add_server-check.ensures c.in-Accepted.is in accepted-here')) in s.few
+pub returns-in_err-add_server-clause-table : goal.returns-in_err-add_server-clause-table
+unfolding check_number add_server_table
+returns-in_err-add_server-clause-table c = kept _ _ (rw c.view.ensures at c.in_err-add_server.ensures) _ _
 
-pub with_server-next-requires-clause-weight_le_capacity : goal.with_server-next-requires-clause-weight_le_capacity
-with_server-next-requires-clause-weight_le_capacity c =
-    let s = add_server-accepted _ _ _ ((let accepted-here' : first_of ((let a = c.args in add_server_rows a.table a.medium.now a.weight)) ≡ 0 = check-accepted ((let a = c.args in add_server_rows a.table a.medium.now a.weight)) c.add_server-check.ensures c.in-Accepted.is in accepted-here')) in s.light
+pub add_server-requires-2 : goal.add_server-requires-2
+unfolding check_number
+add_server-requires-2 c =
+    let s = add_server-accepted _ _ _ (sym (rw c.view.ensures at c.in_ok-add_server.ensures)) in
+    record { table_value = s.is_sound; count_lt_max_servers = s.few; weight_le_capacity = s.light }
 
-pub returns-in-Refused-clause-reply : goal.returns-in-Refused-clause-reply
-unfolding reply_of_server add_server_reply add_server_table
-returns-in-Refused-clause-reply c =
-    let e = (let refused-here' : number_of c.in-Refused.refusal ≡ first_of ((let a = c.args in add_server_rows a.table a.medium.now a.weight)) = check-refused ((let a = c.args in add_server_rows a.table a.medium.now a.weight)) c.add_server-check.ensures c.in-Refused.is in refused-here') in
-    let q = (let a = c.args in add_server_rows a.table a.medium.now a.weight) in reply-refused q _ e _
+pub returns-clause-reply : goal.returns-clause-reply
+unfolding check_number reply_of_server add_server_reply
+returns-clause-reply c = sym (reply-done _ (sym (rw c.view.ensures at c.in_ok-add_server.ensures)) _)
 
-pub returns-in-Refused-clause-table : goal.returns-in-Refused-clause-table
-unfolding reply_of_server add_server_reply add_server_table
-returns-in-Refused-clause-table c =
-    let e = (let refused-here' : number_of c.in-Refused.refusal ≡ first_of ((let a = c.args in add_server_rows a.table a.medium.now a.weight)) = check-refused ((let a = c.args in add_server_rows a.table a.medium.now a.weight)) c.add_server-check.ensures c.in-Refused.is in refused-here') in
-    let q = (let a = c.args in add_server_rows a.table a.medium.now a.weight) in kept q _ e _ (c.args.table)
-
-pub returns-in-Accepted-clause-reply : goal.returns-in-Accepted-clause-reply
-unfolding reply_of_server add_server_reply add_server_table
-returns-in-Accepted-clause-reply c =
-    let e = (let accepted-here' : first_of ((let a = c.args in add_server_rows a.table a.medium.now a.weight)) ≡ 0 = check-accepted ((let a = c.args in add_server_rows a.table a.medium.now a.weight)) c.add_server-check.ensures c.in-Accepted.is in accepted-here') in
-    let q = (let a = c.args in add_server_rows a.table a.medium.now a.weight) in sym (reply-done q e _)
-
-pub returns-in-Accepted-clause-table : goal.returns-in-Accepted-clause-table
-unfolding reply_of_server add_server_reply add_server_table
-returns-in-Accepted-clause-table c =
-    let e = (let accepted-here' : first_of ((let a = c.args in add_server_rows a.table a.medium.now a.weight)) ≡ 0 = check-accepted ((let a = c.args in add_server_rows a.table a.medium.now a.weight)) c.add_server-check.ensures c.in-Accepted.is in accepted-here') in
-    let q = (let a = c.args in add_server_rows a.table a.medium.now a.weight) in c.with_server-next.ensures ∙ sym (settle-yes q _ _ e)
+pub returns-clause-table : goal.returns-clause-table
+unfolding check_number add_server_table
+returns-clause-table c = c.add_server-2.ensures ∙ sym (settle-yes _ _ _ (sym (rw c.view.ensures at c.in_ok-add_server.ensures)))
