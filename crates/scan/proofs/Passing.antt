@@ -38,26 +38,27 @@ other_word m id at e = rw e
 pub none-by-words : (m : List ℕ) (id from d : ℕ) → has_word m id from (entry_words * d) ≡ false → (i : ℕ) → i < d → bears_at m id (from + entry_words * i) ≡ false
 none-by-words m id from d e i l = other_word m id (from + entry_words * i) (some_below-out _ (entry_words * d) e (entry_words * i) (omega arith))
 
-module _ (capacity used : ℕ) (m : List ℕ) (id k d j : ℕ) (few : d ≤ j) (below : j ≤ used) {from : ℕ} (place : from ≡ entry_at capacity k (j - d)) where
+-- d entries from entry low on are a block
+module _ (capacity used : ℕ) (m : List ℕ) (id k d low : ℕ) (below : low + d ≤ used) {from : ℕ} (place : from ≡ entry_at capacity k low) where
   -- no entry of a block bears the id: the highest live entry is below the block
   module _ (h : (i : ℕ) → i < d → bears_at m id (from + entry_words * i) ≡ false) where
-    dead : (i : ℕ) → j - d ≤ i → i < j → live capacity used m id k i ≡ false
+    dead : (i : ℕ) → low ≤ i → i < low + d → live capacity used m id k i ≡ false
     dead i a b =
-        let e : entry_at capacity k i ≡ from + entry_words * (i - (j - d)) = entry-on capacity k (j - d) i a ∙ ap (λ (x : ℕ). x + entry_words * (i - (j - d))) (sym place) in
-        live_below capacity used m id k i (omega arith) ∙ ap (bears_at m id) e ∙ h (i - (j - d)) (omega arith)
+        let e : entry_at capacity k i ≡ from + entry_words * (i - low) = entry-on capacity k low i a ∙ ap (λ (x : ℕ). x + entry_words * (i - low)) (sym place) in
+        live_below capacity used m id k i (omega arith) ∙ ap (bears_at m id) e ∙ h (i - low) (omega arith)
 
-    pub block-passed : highest (live capacity used m id k) j ≡ highest (live capacity used m id k) (j - d)
-    block-passed = highest-below (live capacity used m id k) j (j - d) (omega arith) dead
+    pub block-passed : highest (live capacity used m id k) (low + d) ≡ highest (live capacity used m id k) low
+    block-passed = highest-below (live capacity used m id k) (low + d) low (omega arith) dead
 
   -- it lies inside the medium
   pub block-inside : Inside capacity k m → used ≤ capacity → from + entry_words * d ≤ length m
-  block-inside i l = omega (arith, place, entries-inside capacity k (j - d) d m i (omega arith))
+  block-inside i l = omega (arith, place, entries-inside capacity k low d m i (omega arith))
 
   -- as the code tells it: by the words, and by the entries where the words do not
-  pub passed-by-words : has_word m id from (entry_words * d) ≡ false → highest (live capacity used m id k) j ≡ highest (live capacity used m id k) (j - d)
+  pub passed-by-words : has_word m id from (entry_words * d) ≡ false → highest (live capacity used m id k) (low + d) ≡ highest (live capacity used m id k) low
   passed-by-words e = block-passed (none-by-words m id from d e)
 
-  pub passed-by-entries : bears_some m id from d ≡ false → highest (live capacity used m id k) j ≡ highest (live capacity used m id k) (j - d)
+  pub passed-by-entries : bears_some m id from d ≡ false → highest (live capacity used m id k) (low + d) ≡ highest (live capacity used m id k) low
   passed-by-entries e = block-passed (λ i l. some_below-out (λ i. bears_at m id (from + entry_words * i)) d e i l)
 
 -- the highest entry of those left is the highest live one, or else it is below

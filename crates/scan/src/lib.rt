@@ -54,18 +54,17 @@ fn pass_blocks(medium: &[u32], capacity: usize, used: usize, id: u32, server: us
     ensures few { result ≤ used }
     ensures same { highest (live capacity used medium.now id server) used ≡ highest (live capacity used medium.now id server) result }
 {
-    let mut j = used;
-    // A loop that goes down by a block: as a `for` over the blocks' numbers it divides twice and is no plainer.
-    while BLOCK_ENTRIES <= j {
-        let from = medium::entry_at(capacity, server, j - BLOCK_ENTRIES);
+    let rest = used % BLOCK_ENTRIES;
+    for block in (0..used / BLOCK_ENTRIES).rev() {
+        let low = rest + BLOCK_ENTRIES * block;
+        let from = medium::entry_at(capacity, server, low);
         if has(medium, from, BLOCK_WORDS, id) {
             if bears_some(medium, from, BLOCK_ENTRIES, id) {
-                return j;
+                return low + BLOCK_ENTRIES;
             }
         }
-        j -= BLOCK_ENTRIES;
     }
-    j
+    rest
 }
 
 // The same with groups of entries after the blocks, which are worth it where there are many entries.
@@ -75,19 +74,20 @@ pub fn left(medium: &[u32], capacity: usize, used: usize, id: u32, server: usize
     ensures few { result ≤ used }
     ensures same { highest (live capacity used medium.now id server) used ≡ highest (live capacity used medium.now id server) result }
 {
-    let mut j = used;
-    if MANY <= used {
-        j = pass_blocks(medium, capacity, used, id, server);
-    }
-    // Here too: the groups begin where the blocks end, at no whole number of them.
-    while GROUP <= j {
-        let first = medium::entry_at(capacity, server, j - GROUP);
+    let entries = if MANY <= used {
+        pass_blocks(medium, capacity, used, id, server)
+    } else {
+        used
+    };
+    let rest = entries % GROUP;
+    for group in (0..entries / GROUP).rev() {
+        let low = rest + GROUP * group;
+        let first = medium::entry_at(capacity, server, low);
         if bears_some(medium, first, GROUP, id) {
-            return j;
+            return low + GROUP;
         }
-        j -= GROUP;
     }
-    j
+    rest
 }
 
 // The highest-numbered live entry of an id on a server.

@@ -1,27 +1,28 @@
 -- `scan::pass_blocks` meets its contract. The invariant: the highest live entry is one of those left.
-use Rattle.std.proofs.Common.{◌∙◌, sym, rules}
+use Rattle.std.proofs.Common.{◌≡◌, ◌+◌, ◌*◌, ◌-◌, ◌%◌, sym, ◌∙◌, arith}
 use Rattle.scan.proofs.Passing.{block-inside, passed-by-words, passed-by-entries}
 use Rattle.scan.proofs.pass_blocks.Goals as goal
-use Rattle.scan.proofs.pass_blocks.Goals.{else-has, then-has+else-bears_some}
 
 pub has-requires : goal.has-requires
 has-requires c =
     let a = c.args in
-    block-inside a.capacity a.used a.medium.now a.id a.server 32 c.loop-j.j (search rules) (search rules) c.entry_at-from.ensures c.requires.inside c.requires.used_le_capacity
+    block-inside a.capacity a.used a.medium.now a.id a.server 32 _ (omega arith) c.entry_at-from.ensures c.requires.inside c.requires.used_le_capacity
 
 pub bears_some-requires : goal.bears_some-requires
 bears_some-requires c =
     let a = c.args in
-    block-inside a.capacity a.used a.medium.now a.id a.server 32 c.loop-j.j (search rules) (search rules) c.entry_at-from.ensures c.requires.inside c.requires.used_le_capacity
+    block-inside a.capacity a.used a.medium.now a.id a.server 32 _ (omega arith) c.entry_at-from.ensures c.requires.inside c.requires.used_le_capacity
 
-pub loop-j-preserved : goal.loop-j-preserved
-loop-j-preserved c =
+pub loop-block-preserved-else-bears_some : goal.loop-block-preserved-else-bears_some
+loop-block-preserved-else-bears_some c =
     let a = c.args in
-    let place = c.entry_at-from.ensures in (
-      search rules,
-      c.loop-j.invariant.1
-          ∙ (elim c.if-has.branch [
-            | then-has+else-bears_some w ↦ passed-by-entries a.capacity a.used a.medium.now a.id a.server 32 c.loop-j.j (search rules) (search rules) place (sym w.bears_some.ensures ∙ w.if-bears_some.false)
-            | else-has w ↦ passed-by-words a.capacity a.used a.medium.now a.id a.server 32 c.loop-j.j (search rules) (search rules) place (sym c.has.ensures ∙ w.if-has.false)
-          ]),
-    )
+    let top : a.used % 32 + 32 * c.loop-block.block ≡ a.used % 32 + 32 * (c.loop-block.block - 1) + 32 = omega arith in
+    rw top at c.loop-block.invariant
+    ∙ passed-by-entries a.capacity a.used a.medium.now a.id a.server 32 _ (omega arith) c.entry_at-from.ensures (sym c.bears_some.ensures ∙ c.if-bears_some.false)
+
+pub loop-block-preserved : goal.loop-block-preserved
+loop-block-preserved c =
+    let a = c.args in
+    let top : a.used % 32 + 32 * c.loop-block.block ≡ a.used % 32 + 32 * (c.loop-block.block - 1) + 32 = omega arith in
+    rw top at c.loop-block.invariant
+    ∙ passed-by-words a.capacity a.used a.medium.now a.id a.server 32 _ (omega arith) c.entry_at-from.ensures (sym c.has.ensures ∙ c.if-has.false)
