@@ -3,15 +3,15 @@
 use Prim.Native.Nat.{ℕ, ◌≤◌, ◌<◌}
 use mathlib.Core.Path.{◌≡◌, refl, ap, ap₂, ◌∙◌}
 use mathlib.Core.Logic.{◌≢◌}
-use mathlib.Core.Bool.{false}
+use mathlib.Core.Bool.{true}
 use mathlib.Core.List.{List}
 use Rattle.std.specs.Prelude.{Option}
 use native.Mathlib.Omega.{arith}
 use lib.ListN.{length, length-set}
 use lib.Dec.{eqb}
-use borrow.Author.Tests.{le-leb, lt-leb}
+use borrow.Author.Tests.{leb-true}
 use Rattle.lists.specs.Below.{nth}
-use Rattle.lists.proofs.Tests.{by_bool}
+use Rattle.lists.proofs.Tests.{by_bool, and_l, and_r}
 use Rattle.table.specs.declared.Table.{Table}
 use Rattle.table.proofs.Soundness.{Arrays}
 use Rattle.table_words.specs.Words.{used_offset, table_length, column_from, counters_from, table_from, with_table}
@@ -21,22 +21,12 @@ use Rattle.replies.specs.Number.{add_server_number, reweight_number, write_numbe
 use Rattle.replies.specs.declared.Reply.{Reply}
 use Rattle.history.specs.Call.{Call}
 use Rattle.history.specs.Machine.{State}
-use Rattle.encoding.specs.Encoding.{call_length, reply_length, too_short, with_reply_at}
+use Rattle.encoding.specs.Encoding.{call_length, reply_length}
 use Rattle.dispatch.specs.ByNumber.{call_of, reply_to, next_by, used_after}
 use Rattle.dispatch.proofs.Calling.{with_used, counts, called-in}
 use Rattle.call_words.proofs.Kept.{call-count, stored-again}
-use Rattle.call_words.specs.CallWords.{lent, AfterCall, fits_call, where_fits, with_column}
+use Rattle.call_words.specs.CallWords.{lent, fits_call, with_column}
 use Rattle.call_words.proofs.Columns.{used-stored}
-
--- what `run` ensures
-abbrev pub Ran : List ℕ → List ℕ → Option Call → Reply → List ℕ → List ℕ → Type 0
-Ran words m o r words' m' = (r ≡ reply_to (lent words m) o) × ((words' ≡ with_table words (next_by (lent words m) o).table) × (m' ≡ (next_by (lent words m) o).medium))
-
--- by a table by value
-pub by_value : (words m : List ℕ) (o : Option Call) (r : Reply) (t t' : Table) (words' m' : List ℕ) → t ≡ table_from words
-    → r ≡ reply_to (record { table = t; medium = m }) o → t' ≡ (next_by (record { table = t; medium = m }) o).table → m' ≡ (next_by (record { table = t; medium = m }) o).medium
-    → words' ≡ with_table words t' → Ran words m o r words' m'
-by_value words m o r t t' words' m' e a b c d = (rw e at a, (d ∙ ap (with_table words) (rw e at b), rw e at c))
 
 pub count_fits : (S : State) (o : Option Call) (t : Table) → t ≡ (next_by S o).table → S.table.count < 4294967296 → t.count < 4294967296
 count_fits S o t e l = omega (arith, call-count S o l, ap (λ (u : Table). u.count) e)
@@ -87,32 +77,8 @@ module _ (words m : List ℕ) (number tenant subject amount : ℕ) (l : table_le
       ∙ stored-again words entered _ l entered-arrays
       ∙ ap (with_table words) (called-in (lent words m) number tenant subject amount r e used _ _ a b refl refl refl).1.0
 
--- what a call leaves where it answers n
-abbrev pub Leaves : AfterCall → ℕ → List ℕ → List ℕ → List ℕ → Type 0
-Leaves after n table m reply = (n ≡ after.number) × ((table ≡ after.table) × ((m ≡ after.medium) × (reply ≡ after.reply)))
-
--- by which of the runs is too short, or none
-module _ (table m call reply : List ℕ) (done : AfterCall) where
-  when_too_short : fits_call table call reply ≡ false → Leaves (where_fits table m call reply done) too_short table m reply
-  when_too_short e = rw e (refl, (refl, (refl, refl)))
-
-  pub table-short : length table < table_length → Leaves (where_fits table m call reply done) too_short table m reply
-  unfolding fits_call
-  table-short l = when_too_short (rw (lt-leb _ _ l))
-
-  pub words-short : table_length ≤ length table → length call < call_length → Leaves (where_fits table m call reply done) too_short table m reply
-  unfolding fits_call
-  words-short a l = when_too_short (rw (le-leb _ _ a, lt-leb _ _ l))
-
-  pub reply-short : table_length ≤ length table → call_length ≤ length call → length reply < reply_length → Leaves (where_fits table m call reply done) too_short table m reply
-  unfolding fits_call
-  reply-short a b l = when_too_short (rw (le-leb _ _ a, le-leb _ _ b, lt-leb _ _ l))
-
--- the call is run, and its reply is stored
-module _ (table m call reply : List ℕ) (r' : Reply) (t : Table) (m' : List ℕ) where
-  pub call-done : table_length ≤ length table → call_length ≤ length call → reply_length ≤ length reply
-      → (r : Reply) (table₂ m₂ reply₂ : List ℕ) → r ≡ r' → table₂ ≡ with_table table t → m₂ ≡ m' → reply₂ ≡ with_reply_at reply 0 r
-      → Leaves (where_fits table m call reply (record { number = r'.refusal; table = with_table table t; medium = m'; reply = with_reply_at reply 0 r' })) r.refusal table₂ m₂ reply₂
-  unfolding fits_call
-  call-done a b d r table₂ m₂ reply₂ e f g h =
-      rw (le-leb _ _ a, le-leb _ _ b, le-leb _ _ d) (ap (λ (x : Reply). x.refusal) e, (f, (g, h ∙ ap (with_reply_at reply 0) e)))
+-- runs that are long enough
+pub fits_lengths : (table call reply : List ℕ) → fits_call table call reply ≡ true → (table_length ≤ length table) × (call_length ≤ length call) × (reply_length ≤ length reply)
+unfolding fits_call
+fits_lengths table call reply e =
+    (leb-true table_length (length table) (search and_l), leb-true call_length (length call) (search (and_l, and_r)), leb-true reply_length (length reply) (search (and_l, and_r)))

@@ -8,7 +8,7 @@ ghost use Rattle.table_words.specs.Words.{used_offset, table_length, column_from
 ghost use Rattle.upkeep.specs.Upkeep.{with_opened};
 ghost use Rattle.replies.specs.Number.{add_server_number, reweight_number, write_number};
 ghost use Rattle.dispatch.specs.ByNumber.{call_of, reply_to, next_by, used_after};
-ghost use Rattle.call_words.specs.CallWords.{lent, after_call, with_column};
+ghost use Rattle.call_words.specs.CallWords.{lent, fits_call, after_call, with_column};
 
 use draws::Steps;
 use encoding::{
@@ -16,28 +16,6 @@ use encoding::{
 };
 use replies::{Reply, WRITE};
 use table_words::{COUNTERS_OFFSET, NUMERATORS_OFFSET, TABLE_LENGTH, USED_OFFSET};
-
-// Runs a call but add_server and reweight. `count` and `count_opened` then make the table after it.
-fn run_on(
-    words: &[u32],
-    steps: &Steps,
-    medium: &mut [u32],
-    number: u32,
-    tenant: u32,
-    subject: u32,
-    amount: u32,
-) -> Reply
-    requires table_length_in_bounds { table_length ≤ length words.now }
-    requires number_nonzero { (number ≢ add_server_number) × (number ≢ reweight_number) }
-    ensures reply { result ≡ reply_to (lent words.now medium.old) (call_of number tenant subject amount) }
-    ensures medium { medium.new ≡ (next_by (lent words.now medium.old) (call_of number tenant subject amount)).medium }
-{
-    let shape = table_words::shape_of(words);
-    let columns = table_words::columns_of(words);
-    dispatch::run_in(
-        shape, columns, steps, medium, number, tenant, subject, amount,
-    )
-}
 
 // Counts the entry of an accepted write as used on its server.
 pub fn count(words: &mut [u32], number: u32, reply: Reply)
@@ -68,46 +46,44 @@ pub fn run(
     medium: &mut [u32],
     steps: &Steps,
 ) -> Reply
-    requires table_length_in_bounds { table_length ≤ length table.old }
+    requires { table_length ≤ length table.old }
     ensures reply { result ≡ reply_to (lent table.old medium.old) (call_of number tenant subject amount) }
     ensures table { table.new
         ≡ with_table table.old (next_by (lent table.old medium.old) (call_of number tenant subject amount)).table }
     ensures medium { medium.new ≡ (next_by (lent table.old medium.old) (call_of number tenant subject amount)).medium }
 {
     if number < WRITE {
-        let ran = dispatch::run_change(
-            table_words::table_from(table),
-            medium,
-            number,
-            subject,
-            amount,
-        );
-        table_words::store_table(table, ran.table);
-        return ran.reply;
+        let mut changed = table_words::view_of(table).to_table();
+        let reply = dispatch::run_change(&mut changed, medium, number, subject, amount);
+        table_words::store_table(table, &changed);
+        return reply;
     }
-    let reply = run_on(table, steps, medium, number, tenant, subject, amount);
+    let view = table_words::view_of(table);
+    let reply = dispatch::run_in(&view, steps, medium, number, tenant, subject, amount);
     count(table, number, reply);
     count_opened(table, tenant, reply.opened);
     reply
 }
 
+// Whether the runs are long enough for a call.
+#[tactic(auto, unfolding(crate::specs::CallWords::fits_call))]
+pub fn fits(table: &[u32], call: &[u32], reply: &[u32]) -> bool
+    ensures { result ≡ fits_call table.now call.now reply.now }
+{
+    TABLE_LENGTH <= table.len() && CALL_LENGTH <= call.len() && REPLY_LENGTH <= reply.len()
+}
+
 // Runs the call at the front of its words, stores its reply and answers its refusal number.
+#[tactic(auto, using(dispatch::proofs::Calling::called_small, crate::proofs::Calling::fits_lengths), unfolding(crate::specs::CallWords::after_call, dispatch::specs::ByNumber::call_at))]
 pub fn call(table: &mut [u32], medium: &mut [u32], call: &[u32], reply: &mut [u32]) -> u32
     ensures number { result ≡ (after_call table.old medium.old call.now reply.old).number }
     ensures table { table.new ≡ (after_call table.old medium.old call.now reply.old).table }
     ensures medium { medium.new ≡ (after_call table.old medium.old call.now reply.old).medium }
     ensures reply { reply.new ≡ (after_call table.old medium.old call.now reply.old).reply }
 {
-    if table.len() < TABLE_LENGTH {
+    if !fits(table, call, reply) {
         return encoding::TOO_SHORT;
     }
-    if call.len() < CALL_LENGTH {
-        return encoding::TOO_SHORT;
-    }
-    if reply.len() < REPLY_LENGTH {
-        return encoding::TOO_SHORT;
-    }
-    let steps = Steps::new();
     let told = run(
         call[NUMBER_OFFSET],
         call[TENANT_OFFSET],
@@ -115,7 +91,7 @@ pub fn call(table: &mut [u32], medium: &mut [u32], call: &[u32], reply: &mut [u3
         call[AMOUNT_OFFSET],
         table,
         medium,
-        &steps,
+        &Steps::new(),
     );
     encoding::store(reply, 0, told);
     told.refusal

@@ -130,5 +130,5 @@ reply_to-small S (Some (delete tenant id)) = delete-small S.table S.medium tenan
 reply_to-small S (Some (lookup tenant id)) = lookup-small S.table S.medium tenant id
 reply_to-small S (Some (batch tenant ids)) = record { server = omega arith; opened = omega arith; invalidated = omega arith }
 
-pub called-small : (S : State) (o : Option Call) (r : Reply) → r ≡ reply_to S o → (r.server < 4294967296) × (r.opened < 4294967296) × (r.invalidated < 4294967296)
-called-small S o r e = let s : Small r = rw e (reply_to-small S o) in (s.server, s.opened, s.invalidated)
+pub called_small : (S : State) (o : Option Call) (r : Reply) → r ≡ reply_to S o → (r.server < 4294967296) × (r.opened < 4294967296) × (r.invalidated < 4294967296)
+called_small S o r e = let s : Small r = rw e (reply_to-small S o) in (s.server, s.opened, s.invalidated)

@@ -72,10 +72,10 @@ fn store_array(words: &mut [u32], from: usize, array: &[u32])
 }
 
 // Stores a table as words.
-pub fn store_table(words: &mut [u32], table: Table)
+pub fn store_table(words: &mut [u32], table: &Table)
     requires table_length_in_bounds { table_length ≤ length words.old }
-    requires count_bound { table.count < 4294967296 }
-    ensures { words.new ≡ with_table words.old table }
+    requires count_bound { table.now.count < 4294967296 }
+    ensures { words.new ≡ with_table words.old table.now }
 {
     words[CAPACITY_OFFSET] = table.capacity;
     words[SALT_OFFSET] = table.salt;

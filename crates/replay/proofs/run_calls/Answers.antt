@@ -1,6 +1,6 @@
 -- `replay::run_calls` meets its contract. The invariant: the calls before the word reached are run, as `ReplayedTo` says.
 use borrow.Author.Rules.{rules}
-use Rattle.dispatch.proofs.Calling.{called-small}
+use Rattle.dispatch.proofs.Calling.{called_small}
 use Rattle.replay.proofs.Replaying.{none-to, one-to}
 use Rattle.replay.proofs.run_calls.Goals as goal
 
@@ -9,7 +9,7 @@ loop-at-init c = (search rules, c.requires.table_length_in_bounds, none-to _ _ _
 
 pub store-requires-clause-server_bound : goal.store-requires-clause-server_bound
 store-requires-clause-server_bound c =
-    let d = c.loop-at.invariant.2 in called-small _ _ c.run-reply.result c.run-reply.ensures.reply
+    let d = c.loop-at.invariant.2 in called_small _ _ c.run-reply.result c.run-reply.ensures.reply
 
 pub loop-at-preserved : goal.loop-at-preserved
 loop-at-preserved c =

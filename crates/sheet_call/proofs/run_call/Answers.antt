@@ -2,7 +2,7 @@
 use mathlib.Core.Path.{◌≡◌, refl}
 use borrow.Author.Tests.{not-true, not-false}
 use Rattle.tenants.specs.Tenant.{tenant_of}
-use Rattle.dispatch.proofs.Calling.{called-small}
+use Rattle.dispatch.proofs.Calling.{called_small}
 use Rattle.sheet_start.specs.SheetStart.{sheet_of}
 use Rattle.sheet_start.proofs.Starting.{shown}
 use Rattle.sheet_call.proofs.Calls.{asked, too-early, call-run}
@@ -22,7 +22,7 @@ returns-then-not-in_use-clause-sheet c =
 
 pub put_reply-next-requires-clause-server_bound : goal.put_reply-next-requires-clause-server_bound
 put_reply-next-requires-clause-server_bound c =
-    called-small _ _ _ c.run_by_value-ran.ensures.reply
+    called_small _ _ _ c.run_by_value-ran.ensures.reply
 
 pub returns-clause-next : goal.returns-clause-next
 unfolding sheet_of

@@ -6,4 +6,4 @@ use Rattle.table_words.proofs.store_table.Goals as goal
 
 pub returns : goal.returns
 returns c =
-    stored-table c.args.words.now c.args.table _ _ _ _ _ c.requires.table_length_in_bounds ((let arrays' : Arrays c.args.table = search rules in arrays')) c.store_array.ensures c.store_array-2.ensures c.store_array-3.ensures c.store_array-4.ensures c.store_array-5.ensures
+    stored-table c.args.words.now c.args.table.now _ _ _ _ _ c.requires.table_length_in_bounds ((let arrays' : Arrays c.args.table.now = search rules in arrays')) c.store_array.ensures c.store_array-2.ensures c.store_array-3.ensures c.store_array-4.ensures c.store_array-5.ensures
