@@ -71,5 +71,5 @@ reply-small S number tenant id value = by_bool (eqb number write_number)
     (λ d. rw d (delete-small S.table S.medium tenant id))
     (λ d. rw d (record { server = omega arith; opened = omega arith; invalidated = omega arith }))))
 
-pub some-small : (S : State) (number tenant id value : ℕ) (r : Reply) → r ≡ some_reply S number tenant id value → (r.server < 4294967296) × (r.opened < 4294967296) × (r.invalidated < 4294967296)
-some-small S number tenant id value r e = let s : Small r = rw e (reply-small S number tenant id value) in (s.server, s.opened, s.invalidated)
+pub some_small : (S : State) (number tenant id value : ℕ) (r : Reply) → r ≡ some_reply S number tenant id value → (r.server < 4294967296) × (r.opened < 4294967296) × (r.invalidated < 4294967296)
+some_small S number tenant id value r e = let s : Small r = rw e (reply-small S number tenant id value) in (s.server, s.opened, s.invalidated)
