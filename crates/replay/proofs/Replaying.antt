@@ -4,7 +4,7 @@ use Prim.Native.Nat.{ℕ, zero, suc, ◌+◌, ◌*◌, ◌≤◌, ◌<◌}
 use mathlib.Core.Path.{◌≡◌, refl, sym, ap, ap₂, ◌∙◌, subst}
 use mathlib.Core.Logic.{◌≢◌}
 use mathlib.Core.List.{List, [], ◌∷◌}
-use Rattle.std.specs.Prelude.{Option, None, Some}
+use Rattle.std.specs.Prelude.{Option, None, Some, Result, Ok, Err}
 use native.Mathlib.Numerals.{add-one}
 use native.Mathlib.Omega.{arith}
 use lib.ListN.{length}
@@ -23,7 +23,10 @@ use Rattle.replies.specs.declared.Reply.{Reply}
 use Rattle.replies.proofs.Refusals.{settle-yes, settle-no}
 use Rattle.server_rows.specs.ServerRows.{start_rows}
 use Rattle.servers.specs.Servers.{start_table}
-use Rattle.servers.proofs.Starts.{start-arrays}
+use Rattle.servers.specs.Servers.{start_reply}
+use Rattle.replies.specs.declared.Refusal.{Refusal}
+use Rattle.replies.specs.Reply.{reply_of_check}
+use Rattle.servers.proofs.Starts.{start-arrays, start-refused}
 use Rattle.history.specs.Call.{Call, compared}
 use Rattle.history.specs.Machine.{State, turned, after_turns, after, begin, start_state}
 use Rattle.history.specs.Ledger.{fresh_ledger, ledger_after}
@@ -143,32 +146,18 @@ module _ (words m calls replies : List ℕ) (l : table_length ≤ length words) 
         same_replies = ap length s ∙ length-with_reply replies₁ i r ∙ d.same_replies;
       }
 
--- the calls before the word at are run, of n
-pub record ReplayedTo (words m calls replies : List ℕ) (n at : ℕ) (words' medium replies' : List ℕ) : Type 0 where
-  pub index : ℕ
-  pub begins : at ≡ call_length * index
-  pub few : index ≤ n
-  pub done : Replayed words m calls replies index words' medium replies'
-
-module _ (words m calls replies : List ℕ) (n : ℕ) (l : table_length ≤ length words) where
-  pub none-to : ReplayedTo words m calls replies n 0 words m replies
-  none-to = record { index = 0; begins = refl; few = omega arith; done = none-run words m calls replies l }
-
-  pub one-to : (at : ℕ) (words₁ words₂ medium medium' replies₁ replies₂ : List ℕ) (r : Reply)
-      → ReplayedTo words m calls replies n at words₁ medium replies₁ → at < call_length * n
-      → let o = call_of (nth calls (at + number_offset)) (nth calls (at + tenant_offset)) (nth calls (at + subject_offset)) (nth calls (at + amount_offset)) in
+  -- the same by the words of call i
+  pub one_more : (i : ℕ) (words₁ words₂ medium medium' replies₁ replies₂ : List ℕ) (r : Reply)
+      → Replayed words m calls replies i words₁ medium replies₁
+      → let at = call_length * i in
+      let o = call_of (nth calls (at + number_offset)) (nth calls (at + tenant_offset)) (nth calls (at + subject_offset)) (nth calls (at + amount_offset)) in
       r ≡ reply_to (lent words₁ medium) o
       → words₂ ≡ with_table words₁ (next_by (lent words₁ medium) o).table
       → medium' ≡ (next_by (lent words₁ medium) o).medium
       → length medium' ≡ length medium → replies₂ ≡ with_reply_at replies₁ at r
-      → ReplayedTo words m calls replies n (at + call_length) words₂ medium' replies₂
+      → Replayed words m calls replies (i + 1) words₂ medium' replies₂
   unfolding call_at
-  one-to at words₁ words₂ medium medium' replies₁ replies₂ r d b e f g h s = record {
-    index = d.index + 1;
-    begins = omega (arith, d.begins);
-    few = omega (arith, d.begins);
-    done = one-run words m calls replies l d.index words₁ words₂ medium medium' replies₁ replies₂ r d.done (rw d.begins at e) (rw d.begins at f) (rw d.begins at g) h (s ∙ ap (λ (a : ℕ). with_reply_at replies₁ a r) d.begins);
-  }
+  one_more i words₁ words₂ medium medium' replies₁ replies₂ r d e f g h s = one-run i words₁ words₂ medium medium' replies₁ replies₂ r d e f g h s
 
 -- what `replay` ensures where it answers n
 abbrev pub Done : ℕ → ℕ → List ℕ → List ℕ → List ℕ → ℕ → List ℕ → List ℕ → Type 0
@@ -204,3 +193,11 @@ started-words capacity salt m words words' t l e f =
       ap (λ (u : Table). record { table = u; medium = m }) (ap table_from w ∙ stored-lent words (start_table capacity salt) l a),
       omega (arith, ap length w, length-stored words (start_table capacity salt) l a),
     )
+
+-- a start that did not give a table was refused
+pub refused_by : (capacity salt : ℕ) {a : Result Table Refusal} → reply_of_check a ≡ start_reply capacity salt → ((t : Table) → a ≡ Ok t → ⊥) → first_of (start_rows capacity salt) ≢ 0
+refused_by capacity salt {a} e none = go a refl
+  where
+    go : (b : Result Table Refusal) → a ≡ b → first_of (start_rows capacity salt) ≢ 0
+    go (Ok t) f = absurd (none t f)
+    go (Err r) f = start-refused capacity salt e f

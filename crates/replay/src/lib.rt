@@ -12,7 +12,6 @@ ghost use Rattle.replay.specs.Lent.{resumes};
 
 use draws::Steps;
 use encoding::{AMOUNT_OFFSET, CALL_LENGTH, NUMBER_OFFSET, SUBJECT_OFFSET, TENANT_OFFSET};
-use replies::Check;
 use table_words::TABLE_LENGTH;
 
 // Runs the first `n` encoded calls on a table lent as words. A call and its reply have as many words, so both begin at the same
@@ -33,9 +32,8 @@ fn run_calls(
     ensures replies { replies.new
         ≡ with_replies (reply_at (lent table.old medium.old) calls.now) n replies.old }
 {
-    let end = CALL_LENGTH * n;
-    let mut at: usize = 0;
-    while at < end {
+    for i in 0..n {
+        let at = CALL_LENGTH * i;
         let reply = call_words::run(
             calls[at + NUMBER_OFFSET],
             calls[at + TENANT_OFFSET],
@@ -46,7 +44,6 @@ fn run_calls(
             steps,
         );
         encoding::store(replies, at, reply);
-        at += CALL_LENGTH;
     }
 }
 
@@ -71,16 +68,13 @@ pub fn replay(
         ≡ with_replies (reply_at (start_state capacity salt medium.old) calls.now) result replies.old }
     ensures ledger { LedgerWords capacity salt medium.old calls.now result replies.new }
 {
-    let begun = servers::start(capacity, salt);
-    let answer = begun.answer;
-    if let Check::Refused(_) = answer {
+    let Ok(started) = servers::start(capacity, salt) else {
         return 0;
-    }
+    };
     let n = encoding::room(calls.len(), replies.len());
     let mut words = zero_words();
-    table_words::store_table(&mut words, begun.table);
-    let steps = Steps::new();
-    run_calls(&mut words, &steps, calls, medium, replies, n);
+    table_words::store_table(&mut words, &started);
+    run_calls(&mut words, &Steps::new(), calls, medium, replies, n);
     n
 }
 
@@ -97,7 +91,6 @@ pub fn resume(table: &mut [u32], calls: &[u32], medium: &mut [u32], replies: &mu
         return 0;
     }
     let n = encoding::room(calls.len(), replies.len());
-    let steps = Steps::new();
-    run_calls(table, &steps, calls, medium, replies, n);
+    run_calls(table, &Steps::new(), calls, medium, replies, n);
     n
 }
