@@ -10,7 +10,6 @@ ghost use Rattle.sheet.specs.Sheet.{max_input};
 ghost use Rattle.console.specs.Console.{answer_to};
 
 use std::io;
-use streams::Read;
 
 // A sheet has at most one byte less.
 const INPUT: usize = sheet::MAX_INPUT + 1;
@@ -39,7 +38,7 @@ fn output_space() -> [u8; OUTPUT]
 }
 
 // Puts what is to be printed at the start of the buffer and answers its number of bytes.
-fn answer(read: Read, input: &[u8], medium: &mut [u32], out: &mut [u8]) -> usize
+fn answer(read: Option<usize>, input: &[u8], medium: &mut [u32], out: &mut [u8]) -> usize
     requires at_most { AtMost (length input.now) read }
     requires max_input_in_bounds { longest_line * max_input ≤ length out.old }
     ensures number { result ≡ length (answer_to read input.now medium.old).bytes }
@@ -47,7 +46,7 @@ fn answer(read: Read, input: &[u8], medium: &mut [u32], out: &mut [u8]) -> usize
     ensures words { medium.new ≡ (answer_to read input.now medium.old).sheet.medium }
     ensures inside { result ≤ length out.old }
 {
-    let Read::Bytes(n) = read else {
+    let Some(n) = read else {
         return printing::put_question(out, 0);
     };
     sheet::run(&input[..n], medium, out)

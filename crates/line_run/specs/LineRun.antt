@@ -1,4 +1,5 @@
 -- One line of a sheet, run (document 01, "The program"): what it prints, and the table in use and the medium after it.
+use Rattle.std.specs.Prelude.{Option, None, Some}
 use Rattle.parsing.specs.declared.Line.{Line}
 use Rattle.parsing.specs.declared.Line.TheVariants as line
 use Rattle.printing.specs.Print.{question}
@@ -6,7 +7,7 @@ use Rattle.sheet_start.specs.SheetStart.{Sheet, Done, start_run}
 use Rattle.sheet_call.specs.SheetCall.{call_run}
 
 -- a start, a call, or a line that can't be read
-unfoldable pub line_run : Sheet → Line → Done
-line_run s (line.Start capacity) = start_run s capacity
-line_run s (line.Call number subject amount) = call_run s s.table number subject amount
-line_run s line.Unreadable = record { bytes = question; sheet = s }
+unfoldable pub line_run : Sheet → Option Line → Done
+line_run s (Some (line.Start capacity)) = start_run s capacity
+line_run s (Some (line.Call number subject amount)) = call_run s s.table number subject amount
+line_run s None = record { bytes = question; sheet = s }

@@ -1,40 +1,17 @@
--- Reading step by step: what is left of a run of digits and of a line, and the answers of the number's reader.
+-- Reading step by step: the digits at the front, the number that they make, and the line of a letter and its numbers.
 -- Assumes nothing.
-use Prim.Native.Nat.{ℕ, suc, ◌+◌, ◌-◌, ◌*◌, ◌^◌, ◌≤◌, ◌<◌}
-use mathlib.Core.Path.{◌≡◌, refl, ap, ◌∙◌}
-use mathlib.Core.Bool.{Bool, true, false, cond}
-use mathlib.Core.List.{List}
-use Rattle.std.specs.Prelude.{Option, None, Some}
-use mathlib.Core.Logic.{◌≢◌}
+use Rattle.std.proofs.Common.{◌≡◌, ◌≢◌, ℕ, zero, suc, ◌+◌, ◌-◌, ◌*◌, ◌^◌, ◌≤◌, ◌<◌, min, Bool, not, true, false, cond, ltb, eqb, List, [], Option, Some, None, length, get_or, take, drop, take_all, sym, ◌∙◌, length-drop, length-take, get_or-take, get_or-drop, add-one, arith}
+use Rattle.std.specs.List.{prefix_len, position_or_len}
+use Rattle.std.proofs.lemmas.List.Sums.{prefix_len-drop_yes, prefix_len-drop_no, prefix_len-drop_all, prefix_len_passes, prefix_len-le-length}
+use Rattle.std.proofs.lemmas.List.Folds.{length-prefix_len}
 use native.Mathlib.Nat.{pow-le-pow_right}
-use native.Mathlib.Numerals.{add-one}
-use native.Mathlib.Omega.{arith}
-use lib.ListN.{length, get_or-eq_default}
-use lib.Dec.{ltb, eqb}
-use borrow.Author.Tests.{le-leb, lt-leb, lt-ltb, le-ltb, ltb-true, ltb-false, eq-eqb, ne_eqb}
+use lib.ListN.{get_or-eq_default, drop_of_length-le}
+use lib.Seq.{drop-cons}
+use borrow.Author.Tests.{le-leb, lt-ltb, le-ltb, ltb-true, ltb-false, eq-eqb, ne_eqb, leb-true}
 use Rattle.lists.specs.Below.{nth}
-use Rattle.lists.proofs.Tests.{by_bool}
-use Rattle.parsing.specs.declared.Parsed.{Parsed}
-use Rattle.parsing.specs.declared.Parsed.TheVariants as parsed
+use Rattle.lists.proofs.Tests.{by_bool, and_l, and_r}
 use Rattle.parsing.specs.declared.Line.{Line}
-use Rattle.parsing.specs.declared.Line.TheVariants as line
-use Rattle.parsing.specs.Line.{is_digit, digit_run, value_of, Number, number_at, parsed_of, spaced, line_by, has_two, last, first, line_of, end_below, end_of}
-
--- the tests of a byte
-pub digit : (b : ℕ) → 48 ≤ b → b ≤ 57 → is_digit b ≡ true
-unfolding is_digit
-digit b l h = rw (le-leb 48 b l, le-leb b 57 h)
-
-pub below-digits : (b : ℕ) → b < 48 → is_digit b ≡ false
-unfolding is_digit
-below-digits b l = rw (lt-leb 48 b l)
-
-pub above-digits : (b : ℕ) → 57 < b → is_digit b ≡ false
-unfolding is_digit
-above-digits b h = rw (le-leb 48 b (omega arith), lt-leb b 57 h)
-
-pub past-line : (s : List ℕ) (at : ℕ) → length s ≤ at → is_digit (nth s at) ≡ false
-past-line s at l = ap is_digit (get_or-eq_default s 0 l) ∙ below-digits 0 (omega arith)
+use Rattle.parsing.specs.Line.{is_digit, digit_run, value_of, Number, number_at, spaced, line_by, has_two, last, first, line_of, end_below, end_of}
 
 -- what the next digit makes of a value, and that ten digits fit
 pub next-value : (s : List ℕ) (from n v : ℕ) → v ≡ value_of s from n → v * 10 + (nth s (from + n) - 48) ≡ value_of s from (n + 1)
@@ -47,135 +24,169 @@ next-bound v n d l h = rw add-one (omega arith)
 pub ten-small : (v n : ℕ) → v < 10 ^ n → n ≤ 10 → v < 10000000000
 ten-small v n l h = let m : 10 ^ n ≤ 10 ^ 10 = pow-le-pow_right (omega arith) h in omega arith
 
+-- a byte that is a digit
+digit-low : (b : ℕ) → is_digit b ≡ true → 48 ≤ b
+unfolding is_digit
+digit-low b e = leb-true 48 b (and_l _ _ e)
+
+digit-high : (b : ℕ) → is_digit b ≡ true → b ≤ 57
+unfolding is_digit
+digit-high b e = leb-true b 57 (and_r _ _ e)
+
 module _ (s : List ℕ) (from : ℕ) where
-  -- how many digits there are where n are passed, as the bytes left to look at give it
-  pub run_left : ℕ → ℕ
-  run_left n = n + digit_run s (from + n) (11 - n)
+  none-past : length s ≤ from → is_digit (nth s from) ≡ false
+  unfolding is_digit
+  none-past l = rw (get_or-eq_default s 0 l)
 
-  pub run-all : digit_run s from 11 ≡ run_left 0
-  unfolding run_left
-  run-all = let e : from + 0 ≡ from = omega arith in rw e (omega arith)
+  stops : is_digit (nth s from) ≡ false → prefix_len is_digit (drop from s) ≡ 0
+  stops e = by_bool (ltb from (length s))
+      (λ t. prefix_len-drop_no is_digit s from 0 (ltb-true from (length s) t) e)
+      (λ f. prefix_len-drop_all is_digit s from (ltb-false from (length s) f))
 
-  pub run_on : (n : ℕ) → n ≤ 10 → is_digit (nth s (from + n)) ≡ true → run_left n ≡ run_left (n + 1)
-  unfolding run_left digit_run
-  run_on n l d =
-      let e : 11 - n ≡ suc (10 - n) = omega arith in
-      let f : 11 - (n + 1) ≡ 10 - n = omega arith in
-      let g : from + (n + 1) ≡ suc (from + n) = omega arith in
-      rw (e, f, g, d) (omega arith)
+  goes-on : is_digit (nth s from) ≡ true → prefix_len is_digit (drop from s) ≡ 1 + prefix_len is_digit (drop (from + 1) s)
+  goes-on e = by_bool (ltb from (length s))
+      (λ t. prefix_len-drop_yes is_digit s from 0 (ltb-true from (length s) t) e)
+      (λ f. let n : is_digit (nth s from) ≡ false = none-past (ltb-false from (length s) f) in cc)
 
-  pub run-stops : (n : ℕ) → n ≤ 10 → is_digit (nth s (from + n)) ≡ false → run_left n ≡ n
-  unfolding run_left digit_run
-  run-stops n l d = let e : 11 - n ≡ suc (10 - n) = omega arith in rw (e, d) (omega arith)
+-- the digits counted up to n are those at the front, and at most n
+counted : (s : List ℕ) (n from : ℕ) → digit_run s from n ≡ min n (prefix_len is_digit (drop from s))
+unfolding digit_run
+counted s zero from = omega arith
+counted s (suc n) from = by_bool (is_digit (nth s from))
+    (λ e. rw (e, goes-on s from e, counted s n (suc from), add-one) (omega arith))
+    (λ e. rw (e, stops s from e) (omega arith))
 
-  eleven : run_left 11 ≡ 11
-  unfolding run_left digit_run
-  eleven = refl
+-- what stands from a position on, as a slice from there has it
+abbrev pub rest : List ℕ → ℕ → List ℕ
+rest s from = take (length s - from) (drop from s)
 
-  -- the answers
-  pub too_long : (n : ℕ) → n ≡ 10 → digit_run s from 11 ≡ run_left (n + 1) → parsed.Nothing ≡ parsed_of (number_at s from)
-  unfolding parsed_of number_at
-  too_long n d e = let f : digit_run s from 11 ≡ 11 = rw d at e ∙ eleven in rw f
+module _ (s : List ℕ) (from d : ℕ) (h : from ≤ length s) (e : d ≡ prefix_len is_digit (rest s from)) where
+  front : d ≡ prefix_len is_digit (drop from s)
+  front =
+      let whole : rest s from ≡ drop from s = take_all _ _ (simp length-drop (omega arith)) in
+      rw whole at e
 
-  module _ (n : ℕ) (e : digit_run s from 11 ≡ n) where
-    pub no_digit : n ≡ 0 → parsed.Nothing ≡ parsed_of (number_at s from)
-    unfolding parsed_of number_at
-    no_digit d = rw (e, d)
+  -- the digits at the front are inside, and are those of the line
+  pub digits-inside : length (take d (rest s from)) ≡ d
+  digits-inside = rw e (length-prefix_len is_digit (rest s from))
 
-    module _ (v : ℕ) (w : v ≡ value_of s from n) (p : 1 ≤ n) (l : n ≤ 10) where
-      pub too-high : 4294967296 ≤ v → parsed.Nothing ≡ parsed_of (number_at s from)
-      unfolding parsed_of number_at
-      too-high h = rw (e, le-leb 1 n p, le-leb n 10 l, ← w, le-ltb v 4294967296 h)
+  pub digit_there : (k : ℕ) → k < length (take d (rest s from))
+      → (get_or (take d (rest s from)) k 0 ≡ nth s (from + k)) × ((48 ≤ nth s (from + k)) × (nth s (from + k) ≤ 57))
+  digit_there k l =
+      let b : k < d = omega (arith, digits-inside) in
+      let p : k < length s - from = omega (arith, l, simp (length-take, length-drop) at l) in
+      let at : get_or (take d (rest s from)) k 0 ≡ nth s (from + k) = rw (get_or-take, get_or-take, get_or-drop) in
+      let i : k < prefix_len is_digit (drop from s) = omega (arith, front) in
+      let digit : is_digit (nth s (from + k)) ≡ true = rw get_or-drop at (prefix_len_passes is_digit (drop from s) k 0 i) in
+      (at, (digit-low _ digit, digit-high _ digit))
 
-      pub number_read : v < 4294967296 → parsed.Number v (from + n) ≡ parsed_of (number_at s from)
-      unfolding parsed_of number_at
-      number_read h = rw (e, le-leb 1 n p, le-leb n 10 l, ← w, lt-ltb v 4294967296 h)
+  run-is : digit_run s from 11 ≡ min 11 d
+  run-is = rw front (counted s 11 from)
+
+  pub no_digit : d ≡ 0 → None ≡ number_at s from
+  unfolding number_at
+  no_digit z = let r : digit_run s from 11 ≡ 0 = omega (arith, run-is) in rw r
+
+  pub too_long : 10 < d → None ≡ number_at s from
+  unfolding number_at
+  too_long l = let r : digit_run s from 11 ≡ 11 = omega (arith, run-is) in rw r
+
+  module _ (p : d ≢ 0) (l : d ≤ 10) (v : ℕ) (w : v ≡ value_of s from d) where
+    run_all : digit_run s from 11 ≡ d
+    run_all = omega (arith, run-is)
+
+    pub number_read : v < 4294967296 → Some (v, from + d) ≡ number_at s from
+    unfolding number_at
+    number_read b = rw (run_all, le-leb 1 d (omega arith), le-leb d 10 l, ← w, lt-ltb v 4294967296 b)
+
+    pub too-high : 4294967296 ≤ v → None ≡ number_at s from
+    unfolding number_at
+    too-high b = rw (run_all, le-leb 1 d (omega arith), le-leb d 10 l, ← w, le-ltb v 4294967296 b)
 
 -- the number after one space
-pub past_end : (s : List ℕ) (at : ℕ) → length s ≤ at → parsed.Nothing ≡ parsed_of (spaced s at)
-unfolding parsed_of spaced
+pub past_end : (s : List ℕ) (at : ℕ) → length s ≤ at → None ≡ spaced s at
+unfolding spaced
 past_end s at l = rw (get_or-eq_default s 0 l)
 
-pub no-space : (s : List ℕ) (at : ℕ) → (nth s at ≡ 32 → ⊥) → parsed.Nothing ≡ parsed_of (spaced s at)
-unfolding parsed_of spaced
+pub no-space : (s : List ℕ) (at : ℕ) → (nth s at ≡ 32 → ⊥) → None ≡ spaced s at
+unfolding spaced
 no-space s at n = rw (ne_eqb (nth s at) 32 n)
 
-pub after-space : (s : List ℕ) (at : ℕ) (r : Parsed) → nth s at ≡ 32 → r ≡ parsed_of (number_at s (at + 1)) → r ≡ parsed_of (spaced s at)
+pub after-space : (s : List ℕ) (at : ℕ) (r : Option Number) → nth s at ≡ 32 → r ≡ number_at s (at + 1) → r ≡ spaced s at
 unfolding spaced
 after-space s at r e f = rw (eq-eqb (nth s at) 32 e) f
 
--- what a number's reader answered says what stands there
-pub nothing_read : (o : Option Number) (r : Parsed) → r ≡ parsed_of o → r ≡ parsed.Nothing → o ≡ None
-unfolding parsed_of
-nothing_read None r e f = refl
-nothing_read (Some x) r e f = cc
-
-pub number-there : (o : Option Number) (r : Parsed) → r ≡ parsed_of o → (v n : ℕ) → r ≡ parsed.Number v n → o ≡ Some (record { value = v; next = n })
-unfolding parsed_of
-number-there None r e v n f = cc
-number-there (Some x) r e v n f = let p : x.value ≡ v = cc in let q : x.next ≡ n = cc in rw (← p, ← q)
-
 -- a number after a space is inside the line
-pub inside-line : (s : List ℕ) (at : ℕ) (x : Number) → spaced s at ≡ Some x → at < length s
+pub inside-line : (s : List ℕ) (at : ℕ) (x : Number) → Some x ≡ spaced s at → at < length s
 inside-line s at x e = by_bool (ltb at (length s))
     (λ t. ltb-true at (length s) t)
-    (λ f.
-    let n : spaced s at ≡ None = nothing_read (spaced s at) parsed.Nothing (past_end s at (ltb-false at (length s) f)) refl in
-    let z : ◌≡◌ {A = ℕ} 0 1 = cc in
-    omega arith)
+    (λ f. let n = past_end s at (ltb-false at (length s) f) in cc)
 
 -- the line, once its numbers are read
-pub no-first : (s : List ℕ) → spaced s 1 ≡ None → line_of s ≡ line.Unreadable
+pub no-first : (s : List ℕ) → None ≡ spaced s 1 → None ≡ line_of s
 unfolding line_of first
-no-first s e = rw e
+no-first s e = rw (← e)
 
-module _ (s : List ℕ) (a n : ℕ) (e : spaced s 1 ≡ Some (record { value = a; next = n })) where
+module _ (s : List ℕ) (a n : ℕ) (e : Some (a, n) ≡ spaced s 1) where
   -- nothing may stand after the last number
-  pub whole_of : ℕ → ℕ → Line
-  whole_of b end = cond (eqb end (length s)) (line_by (nth s 0) a b) line.Unreadable
+  pub whole_of : Number → Option Line
+  whole_of x = cond (eqb x.1 (length s)) (line_by (nth s 0) a x.0) None
 
   module _ (two : Bool) (h : two ≡ has_two (nth s 0)) where
-    pub no_second : two ≡ true → spaced s n ≡ None → line_of s ≡ line.Unreadable
+    pub no_second : two ≡ true → None ≡ spaced s n → None ≡ line_of s
     unfolding line_of first last
-    no_second t f = rw (e, ← h, t, f)
+    no_second t f = rw (← e, ← h, t, ← f)
 
-    pub with_second : two ≡ true → (b end v next : ℕ) → spaced s n ≡ Some (record { value = v; next = next }) → b ≡ v → end ≡ next → line_of s ≡ whole_of b end
+    pub with_second : two ≡ true → (x : Number) → Some x ≡ spaced s n → line_of s ≡ whole_of x
     unfolding line_of first last whole_of
-    with_second t b end v next f p q = rw (e, ← h, t, f, p, q)
+    with_second t x f = rw (← e, ← h, t, ← f)
 
-    pub without-second : two ≡ false → (b end : ℕ) → b ≡ 0 → end ≡ n → line_of s ≡ whole_of b end
+    pub without-second : two ≡ false → line_of s ≡ whole_of (0, n)
     unfolding line_of first last whole_of
-    without-second t b end p q = rw (e, ← h, t, p, q)
+    without-second t = rw (← e, ← h, t)
 
-  pub more-after : (b end : ℕ) → line_of s ≡ whole_of b end → end ≢ length s → line_of s ≡ line.Unreadable
+  pub more-after : (x : Number) → line_of s ≡ whole_of x → x.1 ≢ length s → None ≡ line_of s
   unfolding whole_of
-  more-after b end w d = w ∙ rw (ne_eqb end (length s) d)
+  more-after x w d = rw (w, ne_eqb x.1 (length s) d)
 
-  pub none_after : (b end : ℕ) → line_of s ≡ whole_of b end → end ≡ length s → line_of s ≡ line_by (nth s 0) a b
+  pub none_after : (x : Number) (r : Option Line) → line_of s ≡ whole_of x → x.1 ≡ length s → r ≡ line_by (nth s 0) a x.0 → r ≡ line_of s
   unfolding whole_of
-  none_after b end w d = w ∙ rw (eq-eqb end (length s) d)
+  none_after x r w d f = rw (w, eq-eqb x.1 (length s) d) f
 
--- where a line ends that has no LF before a position, as the bytes left to look at give it
-module _ (s : List ℕ) where
-  pub end_left : ℕ → ℕ
-  end_left end = end_below s end (length s - end)
+-- where a line ends, by the place of the first LF from its beginning on
+abbrev pub is_lf : ℕ → Bool
+is_lf b = eqb b 10
 
-  pub end-all : (from : ℕ) → end_of s from ≡ end_left from
-  unfolding end_of end_left
-  end-all from = refl
+ends : (s : List ℕ) (n from : ℕ) → from + n ≡ length s → end_below s from n ≡ from + position_or_len is_lf (drop from s)
+unfolding end_below
+ends s zero from e = let l : length s ≤ from = omega arith in let d : drop from s ≡ [] = drop_of_length-le s l in rw d (omega arith)
+ends s (suc n) from e = rw (drop-cons s from 0 (omega arith)) (by_bool (eqb (nth s from) 10)
+    (λ t. rw t (omega arith))
+    (λ f. rw (f, ends s n (suc from) (omega arith)) (omega arith)))
 
-  pub end-past : (end : ℕ) → length s ≤ end → end_left end ≡ end
-  unfolding end_left end_below
-  end-past end h = let e : length s - end ≡ 0 = omega arith in rw e
+pub end-at : (s : List ℕ) (from : ℕ) → from ≤ length s → end_of s from ≡ from + position_or_len is_lf (drop from s)
+unfolding end_of
+end-at s from h = ends s (length s - from) from (omega arith)
 
-  pub end-here : (end : ℕ) → end < length s → nth s end ≡ 10 → end_left end ≡ end
-  unfolding end_left end_below
-  end-here end h d =
-      let e : length s - end ≡ suc (length s - (end + 1)) = omega arith in
-      rw (e, eq-eqb (nth s end) 10 d)
+-- what the first LF's place says of where it is
+found : (p l n : ℕ) → cond (ltb p l) (Some p) None ≡ Some n → n ≡ p
+found p l n = by_bool (ltb p l) (λ t. rw t (λ e. cc)) (λ f. rw f (λ e. cc))
 
-  pub end_on : (end : ℕ) → end < length s → (nth s end ≡ 10 → ⊥) → end_left end ≡ end_left (end + 1)
-  unfolding end_left end_below
-  end_on end h d =
-      let e : length s - end ≡ suc (length s - (end + 1)) = omega arith in
-      rw (e, ne_eqb (nth s end) 10 d, add-one)
+missing : (p l : ℕ) → cond (ltb p l) (Some p) None ≡ None → l ≤ p
+missing p l = by_bool (ltb p l) (λ t. rw t (λ e. cc)) (λ f. rw f (λ e. ltb-false p l f))
+
+module _ (s : List ℕ) (from : ℕ) (h : from ≤ length s) (r : Option ℕ)
+    (e : r ≡ cond (ltb (position_or_len is_lf (rest s from)) (length (rest s from))) (Some (position_or_len is_lf (rest s from))) None) where
+  end-is : end_of s from ≡ from + position_or_len is_lf (rest s from)
+  end-is =
+      let whole : rest s from ≡ drop from s = take_all _ _ (simp length-drop (omega arith)) in
+      rw whole (end-at s from h)
+
+  pub at_lf : (n : ℕ) → r ≡ Some n → from + n ≡ end_of s from
+  at_lf n i = let p = found _ _ n (sym e ∙ i) in omega (arith, end-is)
+
+  pub no_lf : r ≡ None → length s ≡ end_of s from
+  no_lf i =
+      let p = missing _ _ (sym e ∙ i) in
+      let w : length (rest s from) ≡ length s - from = simp (length-take, length-drop) (omega arith) in
+      omega (arith, end-is, prefix_len-le-length (λ b. not (is_lf b)) (rest s from))

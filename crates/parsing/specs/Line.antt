@@ -3,8 +3,6 @@
 use Rattle.std.specs.Prelude.{ℕ, zero, suc, ◌+◌, ◌-◌, ◌*◌, Bool, cond, ◌&&◌, ◌||◌, List, length, leb, ltb, eqb, Option, None, Some}
 use Rattle.lists.specs.Below.{nth}
 use Rattle.replies.specs.Number.{add_server_number, reweight_number, write_number}
-use Rattle.parsing.specs.declared.Parsed.{Parsed}
-use Rattle.parsing.specs.declared.Parsed.TheVariants as parsed
 use Rattle.parsing.specs.declared.Line.{Line}
 use Rattle.parsing.specs.declared.Line.TheVariants as line
 use Rattle.letters.specs.Letter.{start_letter, number_for}
@@ -23,51 +21,45 @@ value_of s from zero = 0
 value_of s from (suc n) = value_of s from n * 10 + (nth s (from + n) - 48)
 
 -- a number and the position after it
-pub record Number : Type 0 where
-  pub value : ℕ
-  pub next : ℕ
+abbrev pub Number : Type 0
+Number = ℕ × ℕ
 
 -- the number of 1 to 10 digits, below 2^32, that begins at a position; the digits are counted up to 11
 unfoldable pub number_at : List ℕ → ℕ → Option Number
 number_at s from =
     let n = digit_run s from 11 in
-    cond (leb 1 n && (leb n 10 && ltb (value_of s from n) 4294967296)) (Some (record { value = value_of s from n; next = from + n })) None
-
--- what the running reader answers
-unfoldable pub parsed_of : Option Number → Parsed
-parsed_of None = parsed.Nothing
-parsed_of (Some x) = parsed.Number x.value x.next
+    cond (leb 1 n && (leb n 10 && ltb (value_of s from n) 4294967296)) (Some (value_of s from n, from + n)) None
 
 -- the number after one space
 unfoldable pub spaced : List ℕ → ℕ → Option Number
 spaced s at = cond (eqb (nth s at) 32) (number_at s (at + 1)) None
 
--- the line of a letter and its numbers: S starts; a call has its subject first, but F has its amount alone
-unfoldable pub line_by : ℕ → ℕ → ℕ → Line
+-- the line of a letter and its numbers, where the letter has one: S starts; a call has its subject first, but F has its amount alone
+unfoldable pub line_by : ℕ → ℕ → ℕ → Option Line
 line_by letter a b =
     let number = number_for letter in
-    cond (eqb letter start_letter) (line.Start a)
-    (cond (eqb number 0) line.Unreadable
-    (cond (eqb number add_server_number) (line.Call number 0 a)
-    (line.Call number a b)))
+    cond (eqb letter start_letter) (Some (line.Start a))
+    (cond (eqb number 0) None
+    (cond (eqb number add_server_number) (Some (line.Call number 0 a))
+    (Some (line.Call number a b))))
 
 -- G and W have two numbers, the others one
 unfoldable pub has_two : ℕ → Bool
 has_two letter = eqb (number_for letter) reweight_number || eqb (number_for letter) write_number
 
--- the last number of a line, with nothing after it
-unfoldable pub last : List ℕ → (ℕ → Line) → Option Number → Line
-last s f None = line.Unreadable
-last s f (Some x) = cond (eqb x.next (length s)) (f x.value) line.Unreadable
+-- the last number of a line, with nothing after it; None is a line that can't be read
+unfoldable pub last : List ℕ → (ℕ → Option Line) → Option Number → Option Line
+last s f None = None
+last s f (Some x) = cond (eqb x.1 (length s)) (f x.0) None
 
 -- the first number; the second, if there is one, begins where it ends
-unfoldable pub first : List ℕ → Option Number → Line
-first s None = line.Unreadable
+unfoldable pub first : List ℕ → Option Number → Option Line
+first s None = None
 first s (Some x) =
-    cond (has_two (nth s 0)) (last s (line_by (nth s 0) x.value) (spaced s x.next))
+    cond (has_two (nth s 0)) (last s (line_by (nth s 0) x.0) (spaced s x.1))
     (last s (λ a. line_by (nth s 0) a 0) (Some x))
 
-unfoldable pub line_of : List ℕ → Line
+unfoldable pub line_of : List ℕ → Option Line
 line_of s = first s (spaced s 1)
 
 -- where the line that begins at a position ends: at the first LF from there on, or at the end

@@ -18,11 +18,11 @@ fn put_number(out: &mut [u8], at: usize, x: u32) -> usize
     ensures bytes { out.new ≡ sets out.old at (decimal x) }
 {
     if x < 10 {
-        out[at] = 48 + (x % 256) as u8;
+        out[at] = b'0' + x as u8;
         return at + 1;
     }
     let next = put_number(out, at, x / 10);
-    out[next] = 48 + (x % 10) as u8;
+    out[next] = b'0' + (x % 10) as u8;
     next + 1
 }
 
@@ -40,13 +40,13 @@ pub fn put_answer(
     ensures bytes { out.new ≡ sets out.old at (printed letter refusal first second) }
 {
     out[at] = letter;
-    out[at + 1] = 32;
+    out[at + 1] = b' ';
     let one = put_number(out, at + 2, refusal);
-    out[one] = 32;
+    out[one] = b' ';
     let two = put_number(out, one + 1, first);
-    out[two] = 32;
+    out[two] = b' ';
     let three = put_number(out, two + 1, second);
-    out[three] = 10;
+    out[three] = b'\n';
     three + 1
 }
 
@@ -57,18 +57,16 @@ pub fn put_reply(out: &mut [u8], at: usize, number: u32, reply: Reply) -> usize
     ensures next { result ≡ at + length (answered number reply) }
     ensures bytes { out.new ≡ sets out.old at (answered number reply) }
 {
-    let refusal = reply.refusal;
     let server = reply.server as u32;
     let invalidated = reply.invalidated as u32;
-    let letter = letter_of(number);
-    match number {
-        ADD_SERVER => put_answer(out, at, letter, refusal, server, 0),
-        REWEIGHT => put_answer(out, at, letter, refusal, server, 0),
-        WRITE => put_answer(out, at, letter, refusal, server, invalidated),
-        DELETE => put_answer(out, at, letter, refusal, invalidated, 0),
-        LOOKUP => put_answer(out, at, letter, refusal, reply.value, reply.opened as u32),
-        _ => put_question(out, at),
-    }
+    let (first, second) = match number {
+        ADD_SERVER | REWEIGHT => (server, 0),
+        WRITE => (server, invalidated),
+        DELETE => (invalidated, 0),
+        LOOKUP => (reply.value, reply.opened as u32),
+        _ => return put_question(out, at),
+    };
+    put_answer(out, at, letter_of(number), reply.refusal, first, second)
 }
 
 // Puts the question mark of a line that can't be read, or comes before the first accepted S.
@@ -77,7 +75,7 @@ pub fn put_question(out: &mut [u8], at: usize) -> usize
     ensures next { result ≡ at + length question }
     ensures bytes { out.new ≡ sets out.old at question }
 {
-    out[at] = 63;
-    out[at + 1] = 10;
+    out[at] = b'?';
+    out[at + 1] = b'\n';
     at + 2
 }

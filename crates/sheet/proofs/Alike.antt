@@ -3,7 +3,7 @@
 use Prim.Native.Nat.{ℕ}
 use mathlib.Core.Path.{◌≡◌, refl, ap}
 use mathlib.Core.List.{List, [], ◌∷◌, ◌++◌}
-use Rattle.std.specs.Prelude.{None, Some}
+use Rattle.std.specs.Prelude.{Option, None, Some}
 use lib.ListN.{length, replicate}
 use lib.Dec.{ltb, eqb}
 use Rattle.lists.proofs.Tests.{by_bool}
@@ -25,14 +25,14 @@ fresh m = record { table = None; medium = m }
 
 -- an accepted start leaves both the same; every other line leaves both without a table
 line-alike : (lines : List (List ℕ)) (m m' : List ℕ) → length m ≡ length m' → (run (fresh m) lines).bytes ≡ (run (fresh m') lines).bytes
-    → (L : Line)
+    → (L : Option Line)
     → (line_run (fresh m) L).bytes ++ (run (line_run (fresh m) L).sheet lines).bytes ≡ (line_run (fresh m') L).bytes ++ (run (line_run (fresh m') L).sheet lines).bytes
 unfolding line_run call_run start_run settle
-line-alike lines m m' e h (line.Start capacity) = by_bool (eqb (first_of (start_rows capacity sheet_salt)) 0)
-    (λ a. rw a (ap (λ (w : List ℕ). (line_run (fresh m) (line.Start capacity)).bytes ++ (run (record { table = Some (start_table capacity sheet_salt); medium = w }) lines).bytes) (ap (λ (n : ℕ). replicate n blank) e)))
+line-alike lines m m' e h (Some (line.Start capacity)) = by_bool (eqb (first_of (start_rows capacity sheet_salt)) 0)
+    (λ a. rw a (ap (λ (w : List ℕ). (line_run (fresh m) (Some (line.Start capacity))).bytes ++ (run (record { table = Some (start_table capacity sheet_salt); medium = w }) lines).bytes) (ap (λ (n : ℕ). replicate n blank) e)))
     (λ r. rw (r, h))
-line-alike lines m m' e h (line.Call number subject amount) = ap (λ (x : List ℕ). question ++ x) h
-line-alike lines m m' e h line.Unreadable = ap (λ (x : List ℕ). question ++ x) h
+line-alike lines m m' e h (Some (line.Call number subject amount)) = ap (λ (x : List ℕ). question ++ x) h
+line-alike lines m m' e h None = ap (λ (x : List ℕ). question ++ x) h
 
 run-alike : (lines : List (List ℕ)) (m m' : List ℕ) → length m ≡ length m' → (run (fresh m) lines).bytes ≡ (run (fresh m') lines).bytes
 unfolding run

@@ -1,28 +1,34 @@
 -- A sheet line after line: what a line prints at most, where lines end, and what is left to run.
 -- Assumes nothing.
-use Prim.Native.Nat.{ℕ, zero, suc, ◌+◌, ◌-◌, ◌*◌, ◌≤◌, ◌<◌}
+use Prim.Native.Nat.{ℕ, suc, ◌+◌, ◌-◌, ◌*◌, ◌≤◌, ◌<◌}
 use mathlib.Core.Path.{◌≡◌, refl, sym, ap, ◌∙◌}
-use mathlib.Core.Bool.{false, cond}
+use mathlib.Core.Bool.{false}
 use mathlib.Core.List.{List, [], ◌∷◌, ◌++◌}
 use Rattle.std.specs.Prelude.{Option, None, Some}
 use native.Mathlib.Omega.{arith}
+use Rattle.std.proofs.Common.{min, get_or, true, take_all, Bor}
+use Rattle.std.specs.Option.{MatchOption, unwrap_or}
+use Rattle.std.proofs.lemmas.List.{get_or_append_left, take-append-le, append-nil}
+use Rattle.std.proofs.Math.Seq.{drop-append_seam}
 use lib.ListN.{length, take, drop, length-append, length-drop, drop_of_length-le}
 use lib.Seq.{sets, drop-cons, drop-drop}
 use lib.Dec.{ltb, eqb}
-use borrow.Author.Tests.{lt-ltb, le-ltb, ltb-false}
-use Rattle.lists.specs.Below.{nth}
+use borrow.Author.Tests.{lt-ltb, le-ltb, ltb-false, ltb-true, eqb-true}
 use Rattle.lists.proofs.Below.{sets-append}
-use Rattle.lists.proofs.Tests.{by_bool}
+use Rattle.lists.proofs.Tests.{by_bool, true-not-false}
 use Rattle.table.specs.declared.Table.{Table}
 use Rattle.replies.specs.Number.{add_server_number, reweight_number, write_number, delete_number, lookup_number}
 use Rattle.replies.specs.declared.Reply.{Reply}
 use Rattle.parsing.specs.declared.Line.{Line}
 use Rattle.parsing.specs.declared.Line.TheVariants as line
 use Rattle.letters.specs.Letter.{start_letter, letter_of}
-use Rattle.parsing.specs.Line.{line_of, end_below, end_of}
+use Rattle.std.specs.List.{position_or_len, IsFirstMatchOrLen}
+use Rattle.std.proofs.lemmas.List.Sums.{position_or_len_is}
+use lib.Pointwise.{pointwise}
+use Rattle.parsing.specs.Line.{line_of, end_of}
+use Rattle.parsing.proofs.Reading.{is_lf, end-at}
 use Rattle.printing.specs.Print.{printed, question, answered}
 use Rattle.printing.proofs.Printing.{decimal-short, length-line}
-use Rattle.sheet_start.specs.declared.InUse.{InUse}
 use Rattle.sheet_start.specs.SheetStart.{Sheet, Done, sheet_of, start_run}
 use Rattle.sheet_call.specs.SheetCall.{call_run}
 use Rattle.line_run.specs.LineRun.{line_run}
@@ -55,101 +61,131 @@ unfolding call_run
 call-short s None number subject amount = question-short
 call-short s (Some t) number subject amount = answered-short number _
 
-line-short : (s : Sheet) (L : Line) → length (line_run s L).bytes ≤ 35
+line-short : (s : Sheet) (L : Option Line) → length (line_run s L).bytes ≤ 35
 unfolding line_run start_run
-line-short s (line.Start capacity) = short start_letter _ 0 0
-line-short s (line.Call number subject amount) = call-short s s.table number subject amount
-line-short s line.Unreadable = question-short
+line-short s (Some (line.Start capacity)) = short start_letter _ 0 0
+line-short s (Some (line.Call number subject amount)) = call-short s s.table number subject amount
+line-short s None = question-short
 
--- so a line's end leaves room for the next
-pub still-room : (s : Sheet) (L : Line) (from end at next : ℕ) → next ≡ at + length (line_run s L).bytes → at ≤ 35 * from → from ≤ end → next ≤ 35 * (end + 1)
-still-room s L from end at next e h l = omega (arith, line-short s L)
-
--- how many bytes stand before the first LF
-line_length : List ℕ → ℕ
-line_length [] = 0
-line_length (b ∷ rest) = cond (eqb b 10) 0 (suc (line_length rest))
-
--- the first line, and the others after its LF
+-- the first line, by the place of the first LF, and the others after it
 first-line : (b : ℕ) (rest : List ℕ)
-    → lines_of (b ∷ rest) ≡ take (line_length (b ∷ rest)) (b ∷ rest) ∷ lines_of (drop (suc (line_length (b ∷ rest))) (b ∷ rest))
-unfolding lines_of longer line_length
+    → (let n = position_or_len is_lf (b ∷ rest) in lines_of (b ∷ rest) ≡ take n (b ∷ rest) ∷ lines_of (drop (suc n) (b ∷ rest)))
+unfolding lines_of longer
 first-line b [] = by_bool (eqb b 10) (λ e. rw e) (λ e. rw e)
-first-line b (c ∷ rest) = by_bool (eqb b 10) (λ e. rw e) (λ e. rw (e, first-line c rest))
+first-line b (c ∷ rest) = by_bool (eqb b 10)
+    (λ e. rw e)
+    (λ e. let n : 1 + position_or_len is_lf (c ∷ rest) ≡ suc (position_or_len is_lf (c ∷ rest)) = omega arith in rw (e, first-line c rest, n))
 
-line-inside : (xs : List ℕ) → line_length xs ≤ length xs
-unfolding line_length
-line-inside [] = omega arith
-line-inside (b ∷ rest) = by_bool (eqb b 10) (λ e. rw e (omega arith)) (λ e. rw e (omega (arith, line-inside rest)))
+line-first : (left : List ℕ) (n : ℕ) → 0 < length left → position_or_len is_lf left ≡ n → lines_of left ≡ take n left ∷ lines_of (drop (suc n) left)
+line-first [] n l e = absurd (omega arith)
+line-first (b ∷ rest) n l e = rw (← e) (first-line b rest)
 
-module _ (s : List ℕ) where
-  end_below-value : (n from : ℕ) → from + n ≡ length s → end_below s from n ≡ from + line_length (drop from s)
-  unfolding end_below line_length
-  end_below-value zero from e = let h : length s ≤ from = omega arith in rw (drop_of_length-le s h) (omega arith)
-  end_below-value (suc n) from e = rw (drop-cons s from 0 (omega arith)) (by_bool (eqb (nth s from) 10)
-      (λ t. rw t (omega arith))
-      (λ f. rw f (end_below-value n (suc from) (omega arith) ∙ (omega arith))))
+-- the line that begins at a position, and the lines after it
+pub next-line : (s : List ℕ) (from : ℕ) → from < length s → lines_of (drop from s) ≡ take (end_of s from - from) (drop from s) ∷ lines_of (drop (end_of s from + 1) s)
+next-line s from l =
+    let n = position_or_len is_lf (drop from s) in
+    let e : end_of s from ≡ from + n = end-at s from (omega arith) in
+    let k : end_of s from - from ≡ n = omega arith in
+    let m : from + suc n ≡ end_of s from + 1 = omega arith in
+    let d : drop (end_of s from + 1) s ≡ drop (suc n) (drop from s) = ap (λ (x : ℕ). drop x s) (sym m) ∙ sym (drop-drop (suc n) from s) in
+    rw (k, d) (line-first (drop from s) n (simp length-drop (omega arith)) refl)
 
-  module _ (from : ℕ) (l : from < length s) where
-    end_is : end_of s from ≡ from + line_length (drop from s)
-    unfolding end_of
-    end_is = end_below-value (length s - from) from (omega arith)
+last-byte : (xs : List ℕ) (n : ℕ) → length xs ≡ suc n → drop n xs ≡ get_or xs n 0 ∷ []
+last-byte xs n e =
+    let l : length xs ≤ suc n = omega arith in
+    let d : drop (suc n) xs ≡ [] = drop_of_length-le xs l in
+    rw (drop-cons xs n 0 (omega arith), d)
 
-    pub end-bounds : (end : ℕ) → end ≡ end_of s from → (from ≤ end) × (end ≤ length s)
-    end-bounds end e = (omega (arith, end_is), omega (arith, end_is, line-inside (drop from s), length-drop from s))
+empty : (xs : List ℕ) → length xs ≡ 0 → xs ≡ []
+empty [] e = refl
+empty (x ∷ xs) e = absurd (omega arith)
 
-    -- the line that begins at a position, and the lines after it
-    pub next-line : lines_of (drop from s) ≡ take (end_of s from - from) (drop from s) ∷ lines_of (drop (end_of s from + 1) s)
-    next-line =
-        let c : drop from s ≡ nth s from ∷ drop (suc from) s = drop-cons s from 0 l in
-        let n : end_of s from - from ≡ line_length (drop from s) = omega (arith, end_is) in
-        let k : from + suc (line_length (drop from s)) ≡ end_of s from + 1 = omega (arith, end_is) in
-        let d : drop (end_of s from + 1) s ≡ drop (suc (line_length (drop from s))) (drop from s) = ap (λ (x : ℕ). drop x s) (sym k) ∙ sym (drop-drop (suc (line_length (drop from s))) from s) in
-        rw (n, d, c) (first-line (nth s from) (drop (suc from) s))
+-- a piece up to and with the first LF, and the line in it, which is what stands before the LF
+module _ (left piece after : List ℕ) (i : ℕ) (split : left ≡ piece ++ after) (long : length piece ≡ min (i + 1) (length left)) (some : 0 < length left)
+    (first : IsFirstMatchOrLen is_lf left i) where
+  same-byte : (k : ℕ) → k < length piece → get_or piece k 0 ≡ get_or left k 0
+  same-byte k l = rw (split, get_or_append_left piece after 0 k l)
+
+  with-lf : i < length left → (pointwise eqb (drop (length piece - 1) piece) (10 ∷ []) ≡ true) × (lines_of left ≡ take (length piece - 1) piece ∷ lines_of after)
+  with-lf l =
+      let e : length piece ≡ suc i = omega (arith, long) in
+      let j : length piece - 1 ≡ i = omega arith in
+      let lf : get_or piece i 0 ≡ 10 = same-byte i (omega arith) ∙ eqb-true _ 10 (first.1 l 0) in
+      let n : position_or_len is_lf left ≡ i = position_or_len_is is_lf left i 0 (omega arith) (λ k h. first.0 k 0 (omega arith) h) (λ h. first.1 l 0) in
+      let front : take i left ≡ take i piece = rw (split, take-append-le i piece after (omega arith)) in
+      let back : drop (suc i) left ≡ after = rw (split, ← e) (drop-append_seam piece after) in
+      (rw (j, last-byte piece i e, lf), rw (j, line-first left i some n, front, back))
+
+  without-lf : length left ≤ i → (pointwise eqb (drop (length piece - 1) piece) (10 ∷ []) ≡ false) × (lines_of left ≡ piece ∷ lines_of after)
+  without-lf l =
+      let e : length piece ≡ length left = omega (arith, long) in
+      let j : length piece ≡ suc (length piece - 1) = omega arith in
+      let rest : after ≡ [] = empty after (omega (arith, simp length-append at (ap length split))) in
+      let same : left ≡ piece = split ∙ rw rest (append-nil piece) in
+      let other : eqb (get_or piece (length piece - 1) 0) 10 ≡ false = rw (same-byte (length piece - 1) (omega arith)) (first.0 (length piece - 1) 0 (omega arith) (omega arith)) in
+      let n : position_or_len is_lf left ≡ length left = position_or_len_is is_lf left (length left) 0 (omega arith) (λ k h. first.0 k 0 (omega arith) (omega arith)) (λ h. absurd (omega arith)) in
+      let past : length left ≤ suc (length left) = omega arith in
+      let none : drop (suc (length left)) left ≡ [] = drop_of_length-le left past in
+      (rw (last-byte piece (length piece - 1) j, other), line-first left (length left) some n ∙ rw (take_all (length left) left (omega arith), none, rest, same))
+
+  pub shorter : length after < length left
+  shorter = omega (arith, long, simp length-append at (ap length split))
+
+  -- what stripping the LF gives
+  pub line_in : (r : Option (Bor (List ℕ))) (p u : Bor (List ℕ)) → p.now ≡ piece → u ≡ unwrap_or r p
+      → MatchOption r (pointwise eqb (drop (length piece - 1) piece) (10 ∷ []) ≡ false) (λ x. (pointwise eqb (drop (length piece - 1) piece) (10 ∷ []) ≡ true) × (x.now ≡ take (length piece - 1) piece) × (length x.now + 1 ≡ length piece))
+      → lines_of left ≡ u.now ∷ lines_of after
+  line_in None p u a b m = by_bool (ltb i (length left))
+      (λ t. let w = with-lf (ltb-true i (length left) t) in absurd (true-not-false w.0 m))
+      (λ f. let w = without-lf (ltb-false i (length left) f) in rw (b, a) w.1)
+  line_in (Some x) p u a b m = by_bool (ltb i (length left))
+      (λ t. let w = with-lf (ltb-true i (length left) t) in rw (b, m.1) w.1)
+      (λ f. let w = without-lf (ltb-false i (length left) f) in absurd (true-not-false m.0 w.0))
 
 -- a sheet from a table in use on, and the whole of it
-abbrev pub rest : List ℕ → InUse → List ℕ → ℕ → Done
-rest input u m from = run (sheet_of u m) (lines_of (drop from input))
+abbrev pub rest : Option Table → List ℕ → List ℕ → Done
+rest u m left = run (sheet_of u m) (lines_of left)
 
 abbrev pub whole : List ℕ → List ℕ → Done
-whole input m = run (record { table = None; medium = m }) (lines_of input)
+whole input m = rest None m input
 
--- what is left, put after what is printed, makes up the whole
-pub record Left (input m₀ out₀ : List ℕ) (u : InUse) (m out : List ℕ) (from at : ℕ) : Type 0 where
-  pub bytes : sets out at (rest input u m from).bytes ≡ sets out₀ 0 (whole input m₀).bytes
-  pub number : at + length (rest input u m from).bytes ≡ length (whole input m₀).bytes
-  pub sheet : (rest input u m from).sheet ≡ (whole input m₀).sheet
+-- what is left, put after what is printed, makes up the whole, and there is room for it
+pub record Left (input m₀ out₀ : List ℕ) (u : Option Table) (m out left : List ℕ) (at : ℕ) : Type 0 where
+  pub bytes : sets out at (rest u m left).bytes ≡ sets out₀ 0 (whole input m₀).bytes
+  pub number : at + length (rest u m left).bytes ≡ length (whole input m₀).bytes
+  pub sheet : (rest u m left).sheet ≡ (whole input m₀).sheet
+  pub room : at + 35 * length left ≤ 35 * length input
 
 module _ (input m₀ out₀ : List ℕ) where
-  pub all_left : (t : Table) → Left input m₀ out₀ (record { started = false; table = t }) m₀ out₀ 0 0
-  unfolding sheet_of
-  all_left t = record { bytes = refl; number = omega arith; sheet = refl }
+  pub all_left : Left input m₀ out₀ None m₀ out₀ input 0
+  all_left = record { bytes = refl; number = omega arith; sheet = refl; room = omega arith }
 
   -- one line more
-  pub one-done : (u u' : InUse) (m m' out out' : List ℕ) (from end at next : ℕ) → Left input m₀ out₀ u m out from at → from < length input → end ≡ end_of input from
-      → (next ≡ at + length (line_run (sheet_of u m) (line_of (take (end - from) (drop from input)))).bytes)
-      × ((out' ≡ sets out at (line_run (sheet_of u m) (line_of (take (end - from) (drop from input)))).bytes)
-      × (sheet_of u' m' ≡ (line_run (sheet_of u m) (line_of (take (end - from) (drop from input)))).sheet))
-      → Left input m₀ out₀ u' m' out' (end + 1) next
+  pub one-done : (u u' : Option Table) (m m' out out' left line left' : List ℕ) (at next : ℕ) → Left input m₀ out₀ u m out left at
+      → lines_of left ≡ line ∷ lines_of left' → length left' < length left
+      → next ≡ at + length (line_run (sheet_of u m) (line_of line)).bytes
+      → out' ≡ sets out at (line_run (sheet_of u m) (line_of line)).bytes
+      → sheet_of u' m' ≡ (line_run (sheet_of u m) (line_of line)).sheet
+      → Left input m₀ out₀ u' m' out' left' next
   unfolding run
-  one-done u u' m m' out out' from end at next L i e r =
-      let d : Done = line_run (sheet_of u m) (line_of (take (end - from) (drop from input))) in
-      let after : Done = rest input u' m' (end + 1) in
-      let split : rest input u m from ≡ record { bytes = d.bytes ++ after.bytes; sheet = after.sheet } = rw (next-line input from i, ← e, r.1.1) in
+  one-done u u' m m' out out' left line left' at next L f l n b k =
+      let d : Done = line_run (sheet_of u m) (line_of line) in
+      let after : Done = rest u' m' left' in
+      let split : rest u m left ≡ record { bytes = d.bytes ++ after.bytes; sheet = after.sheet } = rw (f, k) in
       record {
-        bytes = rw (r.0, r.1.0, sets-append out at d.bytes after.bytes) (rw split at L.bytes);
-        number = rw r.0 (omega (arith, rw split at L.number, length-append d.bytes after.bytes));
+        bytes = rw (n, b, sets-append out at d.bytes after.bytes) (rw split at L.bytes);
+        number = rw n (omega (arith, rw split at L.number, length-append d.bytes after.bytes));
         sheet = rw split at L.sheet;
+        room = omega (arith, n, L.room, line-short (sheet_of u m) (line_of line));
       }
 
   -- the answers: nothing is left, or the input is too long
-  pub none_left : (u : InUse) (m out : List ℕ) (from at : ℕ) → Left input m₀ out₀ u m out from at → length input ≤ from → length input ≤ 65536
+  pub none_left : (u : Option Table) (m out left : List ℕ) (at : ℕ) → Left input m₀ out₀ u m out left at → length left ≡ 0 → length input ≤ 65536
       → (at ≡ length (output_of input m₀).bytes) × ((out ≡ sets out₀ 0 (output_of input m₀).bytes) × (m ≡ (output_of input m₀).sheet.medium))
-  unfolding output_of run lines_of sheet_of
-  none_left u m out from at L h k =
-      let end : rest input u m from ≡ record { bytes = []; sheet = sheet_of u m } = rw (drop_of_length-le input h) in
-      rw (le-ltb 65536 (length input) k)
-      (omega (arith, rw end at L.number), (rw end at L.bytes, ap (λ (s : Sheet). s.medium) (rw end at L.sheet)))
+  unfolding output_of run lines_of
+  none_left u m out [] at L h k =
+      rw (le-ltb 65536 (length input) k) (omega (arith, L.number), (L.bytes, ap (λ (s : Sheet). s.medium) L.sheet))
+  none_left u m out (b ∷ left) at L h k = absurd (omega arith)
 
   pub when_too_long : (out : List ℕ) (at : ℕ) → 65536 < length input → at ≡ 0 + length question → out ≡ sets out₀ 0 question
       → (at ≡ length (output_of input m₀).bytes) × ((out ≡ sets out₀ 0 (output_of input m₀).bytes) × (m₀ ≡ (output_of input m₀).sheet.medium))

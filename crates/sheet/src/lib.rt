@@ -5,7 +5,7 @@ ghost use Rattle.std.specs.Prelude.{◌≡◌, ◌≤◌, length};
 ghost use Rattle.std.proofs.lemmas.List.Edits.{sets};
 ghost use Rattle.sheet.specs.Sheet.{output_of, output_room};
 
-use sheet_start::InUse;
+use table::Table;
 
 // Bytes of the longest input.
 pub const MAX_INPUT: usize = 65536;
@@ -21,18 +21,11 @@ pub fn run(input: &[u8], medium: &mut [u32], out: &mut [u8]) -> usize
     if input.len() > MAX_INPUT {
         return printing::put_question(out, 0);
     }
-    let mut in_use = InUse {
-        started: false,
-        table: table::empty(0, 0),
-    };
-    let mut from: usize = 0;
+    let mut in_use: Option<Table> = None;
     let mut at: usize = 0;
-    while from < input.len() {
-        let end = parsing::line_end(input, from);
-        let ran = line_run::run_line(in_use, medium, &input[from..end], out, at);
-        in_use = ran.in_use;
-        at = ran.next;
-        from = end + 1;
+    for line in input.split_inclusive(|b| *b == b'\n') {
+        let line = line.strip_suffix(b"\n").unwrap_or(line);
+        at = line_run::run_line(&mut in_use, medium, line, out, at);
     }
     at
 }

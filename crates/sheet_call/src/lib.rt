@@ -8,7 +8,7 @@ ghost use Rattle.limits.specs.Limits.{max_capacity};
 ghost use Rattle.lists.specs.Below.{nth};
 ghost use Rattle.replies.specs.Number.{write_number};
 ghost use Rattle.dispatch.specs.ByNumber.{call_of, reply_to, next_by, used_after};
-ghost use Rattle.printing.specs.Print.{longest_line, question};
+ghost use Rattle.printing.specs.Print.{longest_line};
 ghost use Rattle.sheet_start.specs.SheetStart.{sheet_of};
 ghost use Rattle.sheet_call.specs.SheetCall.{call_run};
 
@@ -16,19 +16,7 @@ use draws::Steps;
 use dispatch::Ran;
 use limits::Column;
 use replies::{Reply, WRITE};
-use sheet_start::{AfterLine, InUse};
 use table::{Columns, Shape, Table};
-
-// Prints the question mark of a line that can't be read, or comes before the first accepted S.
-pub fn ask(in_use: InUse, out: &mut [u8], at: usize) -> AfterLine
-    requires { at + 2 ≤ length out.old }
-    ensures next { result.next ≡ at + length question }
-    ensures bytes { out.new ≡ sets out.old at question }
-    ensures kept { result.in_use ≡ in_use }
-{
-    let next = printing::put_question(out, at);
-    AfterLine { next, in_use }
-}
 
 // Counts the entry of an accepted write in the column of a table by value. A field that is an array can be lent as an array alone.
 fn count_in(used: &mut Column, number: u32, reply: Reply)
@@ -77,38 +65,31 @@ fn run_by_value(
     Ran { reply, table: next }
 }
 
-// Runs a call by its number for the id's own tenant; before the first accepted S it is not run.
+// Runs a call by its number for the id's own tenant and answers the position after what it prints. Before the first accepted S it
+// is not run, and gets a question mark.
 pub fn run_call(
-    in_use: InUse,
+    in_use: &mut Option<Table>,
     medium: &mut [u32],
     number: u32,
     subject: u32,
     amount: u32,
     out: &mut [u8],
     at: usize,
-) -> AfterLine
+) -> usize
     requires { at + longest_line ≤ length out.old }
-    ensures next { result.next
-        ≡ at + length (call_run (sheet_of in_use medium.old) (sheet_of in_use medium.old).table number subject amount).bytes }
+    ensures next { result
+        ≡ at + length (call_run (sheet_of in_use.old medium.old) (sheet_of in_use.old medium.old).table number subject amount).bytes }
     ensures bytes { out.new
         ≡ sets out.old at
-        (call_run (sheet_of in_use medium.old) (sheet_of in_use medium.old).table number subject amount).bytes }
-    ensures sheet { sheet_of result.in_use medium.new
-        ≡ (call_run (sheet_of in_use medium.old) (sheet_of in_use medium.old).table number subject amount).sheet }
+        (call_run (sheet_of in_use.old medium.old) (sheet_of in_use.old medium.old).table number subject amount).bytes }
+    ensures sheet { sheet_of in_use.new medium.new
+        ≡ (call_run (sheet_of in_use.old medium.old) (sheet_of in_use.old medium.old).table number subject amount).sheet }
 {
-    if !in_use.started {
-        return ask(in_use, out, at);
-    }
-    let table = in_use.table;
+    let Some(table) = *in_use else {
+        return printing::put_question(out, at);
+    };
     let tenant = tenants::tenant_of(subject);
     let ran = run_by_value(table, medium, number, tenant, subject, amount);
-    let next = printing::put_reply(out, at, number, ran.reply);
-    let after = ran.table;
-    AfterLine {
-        next,
-        in_use: InUse {
-            started: true,
-            table: after,
-        },
-    }
+    *in_use = Some(ran.table);
+    printing::put_reply(out, at, number, ran.reply)
 }

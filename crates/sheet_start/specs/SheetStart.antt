@@ -1,6 +1,6 @@
 -- A sheet, and a start on it (document 01, "The program", and document 02, item 4): what it prints, and the table in use and the
 -- medium after it.
-use Rattle.std.specs.Prelude.{ℕ, cond, List, length, replicate, Option, None, Some}
+use Rattle.std.specs.Prelude.{ℕ, List, length, replicate, Option, Some}
 use Rattle.medium.specs.Word.{blank}
 use Rattle.table.specs.declared.Table.{Table}
 use Rattle.replies.specs.Refusal.{settle}
@@ -8,7 +8,6 @@ use Rattle.server_rows.specs.ServerRows.{start_rows}
 use Rattle.servers.specs.Servers.{start_reply, start_table}
 use Rattle.letters.specs.Letter.{start_letter}
 use Rattle.printing.specs.Print.{printed}
-use Rattle.sheet_start.specs.declared.InUse.{InUse}
 
 -- the table in use, none before the first accepted S, and the medium
 pub record Sheet : Type 0 where
@@ -16,8 +15,8 @@ pub record Sheet : Type 0 where
   pub medium : List ℕ
 
 -- the sheet that running code holds
-unfoldable pub sheet_of : InUse → List ℕ → Sheet
-sheet_of u m = record { table = cond u.started (Some u.table) None; medium = m }
+abbrev pub sheet_of : Option Table → List ℕ → Sheet
+sheet_of t m = record { table = t; medium = m }
 
 -- what a line prints, and the sheet after it
 pub record Done : Type 0 where

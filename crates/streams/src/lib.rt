@@ -11,13 +11,6 @@ use std::io::ErrorKind;
 // A read or a write that signals break off so many times in a row has failed.
 const TRIES: usize = 65536;
 
-// A read gave so many bytes at the start of the buffer, or it failed.
-#[derive(Clone, Copy)]
-pub enum Read {
-    Bytes(usize),
-    Failed,
-}
-
 // Makes one read, and makes it again where a signal broke it off. No bytes are the end of the input.
 fn read_once<R: io::Read>(reader: &mut R, buf: &mut [u8]) -> io::Result<usize>
     ensures bytes { IfOk result (λ n. n ≤ length buf.old) }
@@ -63,27 +56,29 @@ fn tell_input(rt: &(impl Eprint + AllocGlobal), error: io::Error) {
     let _ = tell(rt, "standard input", error);
 }
 
-// Reads until the input ends or the buffer is full. Where a read fails, it says why on standard error.
+// Reads until the input ends or the buffer is full, and answers how many bytes came. Where a read fails, it says why on standard
+// error and answers nothing.
 pub fn read_all<R: io::Read>(
     reader: &mut R,
     rt: &(impl Eprint + AllocGlobal),
     buf: &mut [u8],
-) -> Read
+) -> Option<usize>
     ensures bytes { AtMost (length buf.old) result }
     ensures known { Gave (R.remaining reader.old) (R.remaining reader.new) buf.new result }
 {
+    // A loop by hand: a turn goes on by what its read gave, and `read_exact` has no answer for an input that ends early.
     let mut done: usize = 0;
     while done < buf.len() {
         match read_from(reader, buf, done) {
-            Ok(0) => return Read::Bytes(done),
+            Ok(0) => return Some(done),
             Ok(n) => done += n,
             Err(e) => {
                 tell_input(rt, e);
-                return Read::Failed;
+                return None;
             }
         }
     }
-    Read::Bytes(done)
+    Some(done)
 }
 
 // Makes one write, and makes it again where a signal broke it off. It answers how many bytes went out.
@@ -115,6 +110,7 @@ pub fn write_all<W: io::Write>(
     ensures bytes { result ≤ length buf.now }
     ensures known { Appends (W.contents writer.old) (W.contents writer.new) (take result buf.now) }
 {
+    // A loop by hand: a turn goes on by what its write took, and the library's `write_all` does not say how much that was in all.
     let mut done: usize = 0;
     while done < buf.len() {
         match write_once(writer, &buf[done..]) {

@@ -1,5 +1,4 @@
 -- `parsing::line_by` meets its contract: a return for S, for a letter of no call, for F and for the other calls.
-use borrow.Author.Rules.{rules}
 use borrow.Author.Tests.{eq-eqb, ne_eqb}
 use Rattle.replies.specs.Number.{add_server_number}
 use Rattle.letters.specs.Letter.{start_letter}

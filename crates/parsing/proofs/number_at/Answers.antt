@@ -1,54 +1,56 @@
--- `parsing::number_at` meets its contract.
--- The invariant: the value is that of the digits passed, and how many there are is given by the bytes left to look at.
-use Prim.Native.Nat.{ℕ, ◌+◌, ◌-◌, ◌^◌, ◌≤◌, ◌<◌}
-use mathlib.Core.Path.{◌≡◌, refl, ◌∙◌}
-use mathlib.Core.Bool.{false}
-use mathlib.Core.List.{List}
-use mathlib.Core.Logic.{⊎_elim}
-use native.Mathlib.Omega.{arith}
-use lib.ListN.{length}
-use borrow.Author.Rules.{rules}
-use Rattle.lists.specs.Below.{nth}
-use Rattle.parsing.specs.Line.{is_digit, digit_run, value_of}
-use Rattle.parsing.proofs.Reading.{digit, below-digits, above-digits, past-line, next-value, next-bound, ten-small, run_left, run-all, run_on, run-stops, too_long, no_digit, too-high, number_read}
+-- `parsing::number_at` meets its contract: the digits at the front are counted, and their value is taken if there are 1 to 10.
+use Rattle.std.proofs.Common.{◌≡◌, ◌≤◌, ◌<◌, ◌∙◌, None, arith, refl, rules}
+use Rattle.parsing.specs.Line.{value_of}
+use Rattle.parsing.proofs.Reading.{next-value, next-bound, ten-small, digits-inside, digit_there, no_digit, too_long, number_read, too-high}
 use Rattle.parsing.proofs.number_at.Goals as goal
-use Rattle.parsing.proofs.number_at.Goals.{else-loop-digits-test, then-loop-digits-test+then-b-lt48, then-loop-digits-test+else-b-lt48+then-b-gt57}
-
-pub loop-digits-init : goal.loop-digits-init
-unfolding value_of
-loop-digits-init c = (omega arith, omega arith, omega arith, refl, run-all c.args.line.now c.args.from)
-
-pub returns-then-digits-eq-MOST_DIGITS : goal.returns-then-digits-eq-MOST_DIGITS
-returns-then-digits-eq-MOST_DIGITS c = too_long (c.args.line.now) (c.args.from) (c.loop-digits.digits) c.if-digits-eq-MOST_DIGITS.true ((let on' : digit_run (c.args.line.now) (c.args.from) 11 ≡ run_left (c.args.line.now) (c.args.from) (c.loop-digits.digits + 1) = c.loop-digits.invariant.4 ∙ run_on (c.args.line.now) (c.args.from) (c.loop-digits.digits) c.loop-digits.invariant.0 (digit (nth (c.args.line.now) (c.args.from + c.loop-digits.digits)) (omega arith) (omega arith)) in on'))
-
-pub loop-digits-preserved : goal.loop-digits-preserved
-loop-digits-preserved c = (
-  omega (arith, c.if-digits-eq-MOST_DIGITS.false),
-  omega arith,
-  next-bound (c.loop-digits.value) (c.loop-digits.digits) (nth (c.args.line.now) (c.args.from + c.loop-digits.digits) - 48) c.loop-digits.invariant.2 (omega arith),
-  next-value (c.args.line.now) (c.args.from) (c.loop-digits.digits) (c.loop-digits.value) c.loop-digits.invariant.3,
-  (let on' : digit_run (c.args.line.now) (c.args.from) 11 ≡ run_left (c.args.line.now) (c.args.from) (c.loop-digits.digits + 1) = c.loop-digits.invariant.4 ∙ run_on (c.args.line.now) (c.args.from) (c.loop-digits.digits) c.loop-digits.invariant.0 (digit (nth (c.args.line.now) (c.args.from + c.loop-digits.digits)) (omega arith) (omega arith)) in on'),
-)
+use Rattle.parsing.proofs.number_at.Goals.{then-digits-eq0-via-then-digits-eq0, then-digits-eq0-via-else-digits-eq0+then-digits-gt-MOST_DIGITS}
 
 pub returns-then-digits-eq0 : goal.returns-then-digits-eq0
-returns-then-digits-eq0 c = no_digit (c.args.line.now) (c.args.from) (c.loop-digits.digits) ((let run' : digit_run (c.args.line.now) (c.args.from) 11 ≡ c.loop-digits.digits = (elim c.loop-digits-test.branch [
-  | else-loop-digits-test w ↦ (let stops' : digit_run (c.args.line.now) (c.args.from) 11 ≡ c.loop-digits.digits = let d : is_digit (nth (c.args.line.now) (c.args.from + c.loop-digits.digits)) ≡ false = (past-line (c.args.line.now) (c.args.from + c.loop-digits.digits) (omega arith)) in c.loop-digits.invariant.4 ∙ run-stops (c.args.line.now) (c.args.from) (c.loop-digits.digits) c.loop-digits.invariant.0 d in stops')
-  | then-loop-digits-test+then-b-lt48 w ↦ (let stops' : digit_run (c.args.line.now) (c.args.from) 11 ≡ c.loop-digits.digits = let d : is_digit (nth (c.args.line.now) (c.args.from + c.loop-digits.digits)) ≡ false = (below-digits _ w.if-b-lt48.true) in c.loop-digits.invariant.4 ∙ run-stops (c.args.line.now) (c.args.from) (c.loop-digits.digits) c.loop-digits.invariant.0 d in stops')
-  | then-loop-digits-test+else-b-lt48+then-b-gt57 w ↦ (let stops' : digit_run (c.args.line.now) (c.args.from) 11 ≡ c.loop-digits.digits = let d : is_digit (nth (c.args.line.now) (c.args.from + c.loop-digits.digits)) ≡ false = (above-digits _ w.if-b-gt57.true) in c.loop-digits.invariant.4 ∙ run-stops (c.args.line.now) (c.args.from) (c.loop-digits.digits) c.loop-digits.invariant.0 d in stops')
-]) in run')) c.if-digits-eq0.true
+returns-then-digits-eq0 c = elim c.then-digits-eq0.branch [
+  | then-digits-eq0-via-then-digits-eq0 w ↦ no_digit _ _ _ c.requires c.digits-digits.ensures w.if-digits-eq0.true
+  | then-digits-eq0-via-else-digits-eq0+then-digits-gt-MOST_DIGITS w ↦ too_long _ _ _ c.requires c.digits-digits.ensures w.if-digits-gt-MOST_DIGITS.true
+]
 
-pub returns-then-value-ge4294967296 : goal.returns-then-value-ge4294967296
-returns-then-value-ge4294967296 c =
-    too-high (c.args.line.now) (c.args.from) (c.loop-digits.digits) ((let run' : digit_run (c.args.line.now) (c.args.from) 11 ≡ c.loop-digits.digits = (elim c.loop-digits-test.branch [
-      | else-loop-digits-test w ↦ (let stops' : digit_run (c.args.line.now) (c.args.from) 11 ≡ c.loop-digits.digits = let d : is_digit (nth (c.args.line.now) (c.args.from + c.loop-digits.digits)) ≡ false = (past-line (c.args.line.now) (c.args.from + c.loop-digits.digits) (omega arith)) in c.loop-digits.invariant.4 ∙ run-stops (c.args.line.now) (c.args.from) (c.loop-digits.digits) c.loop-digits.invariant.0 d in stops')
-      | then-loop-digits-test+then-b-lt48 w ↦ (let stops' : digit_run (c.args.line.now) (c.args.from) 11 ≡ c.loop-digits.digits = let d : is_digit (nth (c.args.line.now) (c.args.from + c.loop-digits.digits)) ≡ false = (below-digits _ w.if-b-lt48.true) in c.loop-digits.invariant.4 ∙ run-stops (c.args.line.now) (c.args.from) (c.loop-digits.digits) c.loop-digits.invariant.0 d in stops')
-      | then-loop-digits-test+else-b-lt48+then-b-gt57 w ↦ (let stops' : digit_run (c.args.line.now) (c.args.from) 11 ≡ c.loop-digits.digits = let d : is_digit (nth (c.args.line.now) (c.args.from + c.loop-digits.digits)) ≡ false = (above-digits _ w.if-b-gt57.true) in c.loop-digits.invariant.4 ∙ run-stops (c.args.line.now) (c.args.from) (c.loop-digits.digits) c.loop-digits.invariant.0 d in stops')
-    ]) in run')) (c.loop-digits.value) c.loop-digits.invariant.3 (omega (arith, c.if-digits-eq0.false)) c.loop-digits.invariant.0 c.if-value-ge4294967296.true
+pub loop-b-init : goal.loop-b-init
+unfolding value_of
+loop-b-init c = record { is = refl; small = omega arith }
+
+pub overflow_mul-value : goal.overflow_mul-value
+overflow_mul-value c =
+    let i = digits-inside c.args.line.now c.args.from c.digits-digits.result c.requires c.digits-digits.ensures in
+    omega (arith, ten-small c.loop-b.value c.loop-b.b-index c.loop-b.invariant.small (omega arith))
+
+pub overflow_sub-b : goal.overflow_sub-b
+overflow_sub-b c =
+    let d = digit_there c.args.line.now c.args.from c.digits-digits.result c.requires c.digits-digits.ensures c.loop-b.b-index c.loop-b-test.true in
+    omega arith
+
+pub overflow_add-value : goal.overflow_add-value
+overflow_add-value c =
+    let i = digits-inside c.args.line.now c.args.from c.digits-digits.result c.requires c.digits-digits.ensures in
+    let d = digit_there c.args.line.now c.args.from c.digits-digits.result c.requires c.digits-digits.ensures c.loop-b.b-index c.loop-b-test.true in
+    omega (arith, ten-small c.loop-b.value c.loop-b.b-index c.loop-b.invariant.small (omega arith))
+
+pub loop-b-preserved : goal.loop-b-preserved
+loop-b-preserved c =
+    let d = digit_there c.args.line.now c.args.from c.digits-digits.result c.requires c.digits-digits.ensures c.loop-b.b-index c.loop-b-test.true in
+    record {
+      is = rw (c.from.ensures, d.0) (next-value _ _ _ _ c.loop-b.invariant.is);
+      small = next-bound _ _ _ c.loop-b.invariant.small (omega arith);
+    }
+
+pub returns-in_err-value : goal.returns-in_err-value
+returns-in_err-value c =
+    let high : 4294967296 ≤ c.loop-b.value = search rules in
+    let none : c.from_residual.result ≡ None = search rules in
+    let i = digits-inside c.args.line.now c.args.from c.digits-digits.result c.requires c.digits-digits.ensures in
+    let all : c.loop-b.b-index ≡ c.digits-digits.result = omega arith in
+    none ∙ too-high _ _ _ c.requires c.digits-digits.ensures c.if-digits-eq0.false c.if-digits-gt-MOST_DIGITS.false _ (rw all at c.loop-b.invariant.is) high
 
 pub returns : goal.returns
 returns c =
-    number_read (c.args.line.now) (c.args.from) (c.loop-digits.digits) ((let run' : digit_run (c.args.line.now) (c.args.from) 11 ≡ c.loop-digits.digits = (elim c.loop-digits-test.branch [
-      | else-loop-digits-test w ↦ (let stops' : digit_run (c.args.line.now) (c.args.from) 11 ≡ c.loop-digits.digits = let d : is_digit (nth (c.args.line.now) (c.args.from + c.loop-digits.digits)) ≡ false = (past-line (c.args.line.now) (c.args.from + c.loop-digits.digits) (omega arith)) in c.loop-digits.invariant.4 ∙ run-stops (c.args.line.now) (c.args.from) (c.loop-digits.digits) c.loop-digits.invariant.0 d in stops')
-      | then-loop-digits-test+then-b-lt48 w ↦ (let stops' : digit_run (c.args.line.now) (c.args.from) 11 ≡ c.loop-digits.digits = let d : is_digit (nth (c.args.line.now) (c.args.from + c.loop-digits.digits)) ≡ false = (below-digits _ w.if-b-lt48.true) in c.loop-digits.invariant.4 ∙ run-stops (c.args.line.now) (c.args.from) (c.loop-digits.digits) c.loop-digits.invariant.0 d in stops')
-      | then-loop-digits-test+else-b-lt48+then-b-gt57 w ↦ (let stops' : digit_run (c.args.line.now) (c.args.from) 11 ≡ c.loop-digits.digits = let d : is_digit (nth (c.args.line.now) (c.args.from + c.loop-digits.digits)) ≡ false = (above-digits _ w.if-b-gt57.true) in c.loop-digits.invariant.4 ∙ run-stops (c.args.line.now) (c.args.from) (c.loop-digits.digits) c.loop-digits.invariant.0 d in stops')
-    ]) in run')) (c.loop-digits.value) c.loop-digits.invariant.3 (omega (arith, c.if-digits-eq0.false)) c.loop-digits.invariant.0 (omega arith)
+    let low : c.loop-b.value < 4294967296 = search rules in
+    let same : c.in_ok-value.value ≡ c.loop-b.value = search rules in
+    let i = digits-inside c.args.line.now c.args.from c.digits-digits.result c.requires c.digits-digits.ensures in
+    let all : c.loop-b.b-index ≡ c.digits-digits.result = omega arith in
+    rw same (number_read _ _ _ c.requires c.digits-digits.ensures c.if-digits-eq0.false c.if-digits-gt-MOST_DIGITS.false _ (rw all at c.loop-b.invariant.is) low)

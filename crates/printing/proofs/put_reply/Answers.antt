@@ -1,50 +1,32 @@
--- `printing::put_reply` meets its contract: an arm for each number.
+-- `printing::put_reply` meets its contract: each arm's numbers make the line of that call.
 use Rattle.std.proofs.Common.{◌≡◌, arith}
-use borrow.Author.Tests.{ne_eqb}
-use Rattle.printing.specs.Print.{question, answered}
+use Rattle.letters.specs.Letter.{letter_of}
+use Rattle.printing.specs.Print.{printed, question, answered}
+use Rattle.printing.proofs.Printing.{line_by_server, no_call}
 use Rattle.printing.proofs.put_reply.Goals as goal
+use Rattle.printing.proofs.put_reply.Goals.{in-3, in-4, in-5, in-1, in_default-via-then-number-lt1, in_default-via-else-number-lt1+else-number-lt3}
 
--- in each arm `answered` is the line that the call put, with the letter of the arm's number
-pub returns-in-1 : goal.returns-in-1
-unfolding answered
-returns-in-1 c = record {
-  next = rw (← c.letter_of-letter.ensures, c.in-1.is) c.put_answer.ensures.next;
-  bytes = rw (← c.letter_of-letter.ensures, c.in-1.is) c.put_answer.ensures.bytes;
-}
-
-pub returns-in-2 : goal.returns-in-2
-unfolding answered
-returns-in-2 c = record {
-  next = rw (← c.letter_of-letter.ensures, c.in-2.is) c.put_answer-in-2.ensures.next;
-  bytes = rw (← c.letter_of-letter.ensures, c.in-2.is) c.put_answer-in-2.ensures.bytes;
-}
-
-pub returns-in-3 : goal.returns-in-3
-unfolding answered
-returns-in-3 c = record {
-  next = rw (← c.letter_of-letter.ensures, c.in-3.is) c.put_answer-in-3.ensures.next;
-  bytes = rw (← c.letter_of-letter.ensures, c.in-3.is) c.put_answer-in-3.ensures.bytes;
-}
-
-pub returns-in-4 : goal.returns-in-4
-unfolding answered
-returns-in-4 c = record {
-  next = rw (← c.letter_of-letter.ensures, c.in-4.is) c.put_answer-in-4.ensures.next;
-  bytes = rw (← c.letter_of-letter.ensures, c.in-4.is) c.put_answer-in-4.ensures.bytes;
-}
-
-pub returns-in-5 : goal.returns-in-5
-unfolding answered
-returns-in-5 c = record {
-  next = rw (← c.letter_of-letter.ensures, c.in-5.is) c.put_answer-in-5.ensures.next;
-  bytes = rw (← c.letter_of-letter.ensures, c.in-5.is) c.put_answer-in-5.ensures.bytes;
-}
-
--- a number of no call is answered by the question mark
 pub returns-in_default : goal.returns-in_default
-unfolding answered
 returns-in_default c =
+    let none = no_call c.args.number c.args.reply in
+    let line : answered c.args.number c.args.reply ≡ question = elim c.in_default.branch [
+      | in_default-via-then-number-lt1 w ↦ none (omega arith)
+      | in_default-via-else-number-lt1+else-number-lt3 w ↦ none (omega arith)
+    ] in
+    record { next = rw line c.put_question.ensures.next; bytes = rw line c.put_question.ensures.bytes }
+
+pub returns : goal.returns
+unfolding answered
+returns c =
     let n = c.args.number in
-    let other : answered n c.args.reply ≡ question =
-    rw (ne_eqb n 1 (λ e. omega arith), ne_eqb n 2 (λ e. omega arith), ne_eqb n 3 (λ e. omega arith), ne_eqb n 4 (λ e. omega arith), ne_eqb n 5 (λ e. omega arith)) in
-    record { next = rw other c.put_question.ensures.next; bytes = rw other c.put_question.ensures.bytes }
+    let r = c.args.reply in
+    let line : answered n r ≡ printed (letter_of n) r.refusal c.match-number.first.0 c.match-number.first.1 = elim c.match-number.branch [
+      | in-3 w ↦ rw (w.first-is, w.in-3.is)
+      | in-4 w ↦ rw (w.first-is, w.in-4.is)
+      | in-5 w ↦ rw (w.first-is, w.in-5.is)
+      | in-1 w ↦ rw w.first-is (line_by_server n r (omega arith) (omega arith))
+    ] in
+    record {
+      next = rw (line, ← c.letter_of.ensures) c.put_answer.ensures.next;
+      bytes = rw (line, ← c.letter_of.ensures) c.put_answer.ensures.bytes;
+    }

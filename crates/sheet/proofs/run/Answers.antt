@@ -1,74 +1,39 @@
--- `sheet::run` meets its contract. The invariant: what is printed and what is left make up the whole, and there is room for it.
-use Prim.Native.Nat.{◌-◌, ◌*◌, ◌≤◌}
-use mathlib.Core.Path.{◌≡◌, refl, ◌∙◌}
-use native.Mathlib.Omega.{arith}
-use lib.ListN.{length}
-use borrow.Author.Rules.{rules}
-use Rattle.sheet.proofs.Sheets.{still-room, end-bounds, Left, all_left, one-done, none_left, when_too_long, room-question, room-lines}
+-- `sheet::run` meets its contract.
+use Rattle.std.proofs.Common.{◌≡◌, ◌≤◌, ◌*◌, length, arith, refl, rules, tests}
+use Rattle.std.specs.Slice.Iter.{split_inclusive_rest}
+use Rattle.std.proofs.lemmas.Fn.{always_returns_same}
+use Rattle.parsing.proofs.Reading.{is_lf}
+use Rattle.sheet.proofs.Sheets.{all_left, line_in, shorter, one-done, none_left, when_too_long, room-question, room-lines}
 use Rattle.sheet.proofs.run.Goals as goal
 
 pub put_question-requires : goal.put_question-requires
 put_question-requires c = room-question _ _ c.requires (omega (arith, c.if-input-gt-MAX_INPUT.true))
 
-pub returns-then-input-gt-MAX_INPUT-clause-number : goal.returns-then-input-gt-MAX_INPUT-clause-number
-returns-then-input-gt-MAX_INPUT-clause-number c =
-    (when_too_long c.args.input.now c.args.medium.now c.args.out.now _ _ c.if-input-gt-MAX_INPUT.true c.put_question.ensures.next c.put_question.ensures.bytes).0
+pub returns-then-input-gt-MAX_INPUT : goal.returns-then-input-gt-MAX_INPUT
+returns-then-input-gt-MAX_INPUT c =
+    let done = when_too_long c.args.input.now c.args.medium.now c.args.out.now _ _ c.if-input-gt-MAX_INPUT.true c.put_question.ensures.next c.put_question.ensures.bytes in
+    record { number = done.0; bytes = done.1.0; words = done.1.1 }
 
-pub returns-then-input-gt-MAX_INPUT-clause-bytes : goal.returns-then-input-gt-MAX_INPUT-clause-bytes
-returns-then-input-gt-MAX_INPUT-clause-bytes c =
-    (when_too_long c.args.input.now c.args.medium.now c.args.out.now _ _ c.if-input-gt-MAX_INPUT.true c.put_question.ensures.next c.put_question.ensures.bytes).1.0
+pub loop-line-init : goal.loop-line-init
+loop-line-init c =
+    let whole : split_inclusive_rest c.into_iter-line-iterator.result ≡ c.args.input.now = search rules in
+    rw whole (all_left c.args.input.now c.args.medium.now c.args.out.now)
 
-pub returns-then-input-gt-MAX_INPUT-clause-words : goal.returns-then-input-gt-MAX_INPUT-clause-words
-returns-then-input-gt-MAX_INPUT-clause-words c =
-    (when_too_long c.args.input.now c.args.medium.now c.args.out.now _ _ c.if-input-gt-MAX_INPUT.true c.put_question.ensures.next c.put_question.ensures.bytes).1.1
-
-pub loop-from-init : goal.loop-from-init
-loop-from-init c = (all_left _ _ _ _, omega arith, refl, refl)
-
--- a line lies within the input
-pub slice_bounds-run_line-start : goal.slice_bounds-run_line-start
-slice_bounds-run_line-start c =
-    let ends : (c.loop-from.from ≤ c.line_end-end.result) × (c.line_end-end.result ≤ length c.args.input.now) = end-bounds c.args.input.now c.loop-from.from c.loop-from-test.true _ c.line_end-end.ensures in
-    ends.0
-
-pub slice_bounds-run_line-end : goal.slice_bounds-run_line-end
-slice_bounds-run_line-end c =
-    let ends : (c.loop-from.from ≤ c.line_end-end.result) × (c.line_end-end.result ≤ length c.args.input.now) = end-bounds c.args.input.now c.loop-from.from c.loop-from-test.true _ c.line_end-end.ensures in
-    ends.1
-
-pub slice_bounds-run_line-count : goal.slice_bounds-run_line-count
-slice_bounds-run_line-count c =
-    let ends : (c.loop-from.from ≤ c.line_end-end.result) × (c.line_end-end.result ≤ length c.args.input.now) = end-bounds c.args.input.now c.loop-from.from c.loop-from-test.true _ c.line_end-end.ensures in
-    (ends).0
-
-pub run_line-ran-requires : goal.run_line-ran-requires
-run_line-ran-requires c =
+pub run_line-at-requires : goal.run_line-at-requires
+run_line-at-requires c =
     let p : 35 * length c.args.input.now ≤ length c.args.out.now = room-lines _ _ c.requires c.if-input-gt-MAX_INPUT.false in
-    omega (arith, p, c.loop-from.invariant.1, c.loop-from.invariant.3, c.loop-from-test.true)
+    let steps = c.in-Some.ensures.steps in
+    omega (arith, p, c.loop-line.invariant.room)
 
-pub loop-from-smaller : goal.loop-from-smaller
-loop-from-smaller c =
-    let ends : (c.loop-from.from ≤ c.line_end-end.result) × (c.line_end-end.result ≤ length c.args.input.now) = end-bounds c.args.input.now c.loop-from.from c.loop-from-test.true _ c.line_end-end.ensures in
-    omega (arith, (ends).0, c.loop-from-test.true)
+pub loop-line-preserved : goal.loop-line-preserved
+loop-line-preserved c =
+    let steps = c.in-Some.ensures.steps in
+    let first = (steps.1.2 is_lf (always_returns_same _ _ _ (λ a r q k. search (rules, tests)))).1 in
+    let line = line_in _ c.in-Some.line.now _ _ steps.0 steps.1.1 steps.2 first _ _ _ refl c.unwrap_or-line.ensures c.strip_suffix.ensures.cases in
+    let ran = c.run_line-at.ensures in
+    one-done c.args.input.now c.args.medium.now c.args.out.now _ _ _ _ _ _ _ _ _ _ _ c.loop-line.invariant line (shorter _ c.in-Some.line.now _ _ steps.0 steps.1.1 steps.2 first) ran.next ran.bytes ran.sheet
 
-pub loop-from-preserved : goal.loop-from-preserved
-loop-from-preserved c =
-    let ends : (c.loop-from.from ≤ c.line_end-end.result) × (c.line_end-end.result ≤ length c.args.input.now) = end-bounds c.args.input.now c.loop-from.from c.loop-from-test.true _ c.line_end-end.ensures in (
-      one-done c.args.input.now c.args.medium.now c.args.out.now c.loop-from.in_use _ c.loop-from.medium _ c.loop-from.out _ c.loop-from.from _ c.loop-from.at _
-          c.loop-from.invariant.0 c.loop-from-test.true c.line_end-end.ensures (c.run_line-ran.ensures.next, (c.run_line-ran.ensures.bytes, c.run_line-ran.ensures.sheet)),
-      still-room _ _ _ _ _ _ c.run_line-ran.ensures.next c.loop-from.invariant.1 (ends).0,
-      c.run_line-ran.auto.medium ∙ c.loop-from.invariant.2,
-      c.run_line-ran.auto.out ∙ c.loop-from.invariant.3,
-    )
-
-pub returns-clause-number : goal.returns-clause-number
-returns-clause-number c =
-    (none_left c.args.input.now c.args.medium.now c.args.out.now c.loop-from.in_use _ _ _ _ c.loop-from.invariant.0 c.loop-from-test.false c.if-input-gt-MAX_INPUT.false).0
-
-pub returns-clause-bytes : goal.returns-clause-bytes
-returns-clause-bytes c =
-    (none_left c.args.input.now c.args.medium.now c.args.out.now c.loop-from.in_use _ _ _ _ c.loop-from.invariant.0 c.loop-from-test.false c.if-input-gt-MAX_INPUT.false).1.0
-
-pub returns-clause-words : goal.returns-clause-words
-returns-clause-words c =
-    (none_left c.args.input.now c.args.medium.now c.args.out.now c.loop-from.in_use _ _ _ _ c.loop-from.invariant.0 c.loop-from-test.false c.if-input-gt-MAX_INPUT.false).1.1
+pub returns : goal.returns
+returns c =
+    let done = none_left c.args.input.now c.args.medium.now c.args.out.now _ _ _ _ _ c.loop-line.invariant (c.in-None.ensures.steps.0) c.if-input-gt-MAX_INPUT.false in
+    record { number = done.0; bytes = done.1.0; words = done.1.1 }
