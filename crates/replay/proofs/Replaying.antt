@@ -193,11 +193,3 @@ started-words capacity salt m words words' t l e f =
       ap (λ (u : Table). record { table = u; medium = m }) (ap table_from w ∙ stored-lent words (start_table capacity salt) l a),
       omega (arith, ap length w, length-stored words (start_table capacity salt) l a),
     )
-
--- a start that did not give a table was refused
-pub refused_by : (capacity salt : ℕ) {a : Result Table Refusal} → reply_of_check a ≡ start_reply capacity salt → ((t : Table) → a ≡ Ok t → ⊥) → first_of (start_rows capacity salt) ≢ 0
-refused_by capacity salt {a} e none = go a refl
-  where
-    go : (b : Result Table Refusal) → a ≡ b → first_of (start_rows capacity salt) ≢ 0
-    go (Ok t) f = absurd (none t f)
-    go (Err r) f = start-refused capacity salt e f

@@ -61,6 +61,12 @@ module _ (rows : List Row) (e : first_of rows ≡ 0) where
 pub plan-refused : (rows : List Row) (r : Refusal) (k : ℕ) → number_of r ≡ first_of rows → (number_of r ≡ first_of rows) × (0 ≡ settle rows k 0)
 plan-refused rows r k e = (e, kept rows r e k 0)
 
+-- the number is that of the reply
+pub number-of-reply : {A : Type 0} (a : Result A Refusal) → check_number a ≡ (reply_of_check a).refusal
+unfolding check_number reply_of_check
+number-of-reply (Ok _) = refl
+number-of-reply (Err r) = refl
+
 -- the answer of start is what its test says
 pub check-reply : {A : Type 0} (rows : List Row) (a : Result A Refusal) → check_number a ≡ first_of rows → reply_of_check a ≡ reply_by rows accepted
 unfolding check_number reply_of_check

@@ -25,13 +25,12 @@ pub fn run_start(
     ensures bytes { out.new ≡ sets out.old at (start_run (sheet_of in_use.old medium.old) capacity).bytes }
     ensures sheet { sheet_of in_use.new medium.new ≡ (start_run (sheet_of in_use.old medium.old) capacity).sheet }
 {
-    let begun = servers::start(capacity, SALT);
-    let reply = replies::start_reply(begun.answer);
-    let next = printing::put_answer(out, at, letters::START, reply.refusal, 0, 0);
-    if reply.refusal != 0 {
-        return next;
+    let started = servers::start(capacity, SALT);
+    let refusal = replies::check_number(&started);
+    let next = printing::put_answer(out, at, letters::START, refusal, 0, 0);
+    if let Ok(table) = started {
+        medium.fill(medium::BLANK);
+        *in_use = Some(table);
     }
-    medium.fill(medium::BLANK);
-    *in_use = Some(begun.table);
     next
 }

@@ -1,12 +1,12 @@
 -- `replay::replay` meets its contract: no call after a refused start, and else as many as both slices have room for.
 use native.Mathlib.Omega.{arith}
 use Rattle.servers.proofs.Starts.{start-accepted, start-count}
-use Rattle.replay.proofs.Replaying.{started-words, refused-run, all-run, refused_by}
+use Rattle.replay.proofs.Replaying.{started-words, refused-run, all-run}
 use Rattle.replay.proofs.replay.Goals as goal
 
 pub returns-in_default : goal.returns-in_default
 returns-in_default c =
-    let r = refused-run c.args.capacity c.args.salt c.args.medium.now c.args.calls.now c.args.replies.now (refused_by _ _ c.start.ensures.reply c.in_default.not-Ok) in
+    let r = refused-run c.args.capacity c.args.salt c.args.medium.now c.args.calls.now c.args.replies.now (start-refused _ _ c.start.ensures.reply c.in_default.is) in
     record { number = r.0; words = r.1.0; replies = r.1.1.0; ledger = r.1.1.1 }
 
 pub store_table-requires-clause-count_bound : goal.store_table-requires-clause-count_bound

@@ -12,10 +12,10 @@ returns-in_default c =
     record { next = rw none c.put_question.ensures.next; bytes = rw none c.put_question.ensures.bytes; sheet = rw none (search rules) }
 
 pub put_reply-requires-clause-server_bound : goal.put_reply-requires-clause-server_bound
-put_reply-requires-clause-server_bound c = called_small _ _ _ c.run_by_value-ran.ensures.reply
+put_reply-requires-clause-server_bound c = called_small _ _ _ c.run-reply.ensures.reply
 
 pub returns : goal.returns
 returns c =
-    let ran = c.run_by_value-ran.ensures in
+    let ran = c.run-reply.ensures in
     let done = call-run c.in-Some.table c.args.medium.now c.args.number c.args.subject c.args.amount _ c.tenant_of-tenant.ensures _ _ _ ran.reply ran.table ran.medium in
     record { next = rw (c.in-Some.is, done) c.put_reply.ensures.next; bytes = rw (c.in-Some.is, done) c.put_reply.ensures.bytes; sheet = rw (c.in-Some.is, done) }

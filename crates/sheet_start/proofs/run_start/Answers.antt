@@ -4,13 +4,13 @@ use Rattle.medium.specs.Word.{blank}
 use Rattle.sheet_start.proofs.Starting.{start-refused, start-accepted}
 use Rattle.sheet_start.proofs.run_start.Goals as goal
 
-pub returns-then-reply-ne0 : goal.returns-then-reply-ne0
-returns-then-reply-ne0 c =
-    let done = start-refused c.args.in_use.now c.args.medium.now c.args.capacity _ _ c.start_reply-reply.ensures c.start-begun.ensures.reply c.if-reply-ne0.true in
+pub returns-in_default : goal.returns-in_default
+returns-in_default c =
+    let done = start-refused c.args.in_use.now c.args.medium.now c.args.capacity _ _ c.check_number-refusal.ensures c.start-started.ensures.reply c.in_default.is in
     record { next = rw done c.put_answer-next.ensures.next; bytes = rw done c.put_answer-next.ensures.bytes; sheet = rw done }
 
-pub returns : goal.returns
-returns c =
+pub returns-in-Ok : goal.returns-in-Ok
+returns-in-Ok c =
     let all : c.fill.new.self ≡ replicate (length c.args.medium.now) blank = search rules in
-    let done = start-accepted c.args.in_use.now c.args.medium.now c.args.capacity _ _ c.start_reply-reply.ensures c.start-begun.ensures.reply c.if-reply-ne0.false _ _ c.start-begun.ensures.table all in
+    let done = start-accepted c.args.in_use.now c.args.medium.now c.args.capacity _ _ c.check_number-refusal.ensures c.start-started.ensures.reply c.in-Ok.is c.start-started.ensures.table _ all in
     record { next = rw done c.put_answer-next.ensures.next; bytes = rw done c.put_answer-next.ensures.bytes; sheet = rw done }
