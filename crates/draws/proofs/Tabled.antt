@@ -15,3 +15,6 @@ pub steps-at : (words : List ℕ) → are_steps words ≡ true → (k : ℕ) →
 unfolding are_steps
 steps-at words rule k h =
     eqb-true _ _ (all_below-out _ max_servers (and_r (eqb (length words) max_servers) (all_below (λ i. eqb (nth words i) (step_of i)) max_servers) rule) k h)
+
+-- both, for the functions that are lent the steps
+pub ruleset tabled = (steps-length, steps-at)
