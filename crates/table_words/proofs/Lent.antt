@@ -4,8 +4,8 @@ use Prim.Native.Nat.{ℕ, ◌+◌, ◌≤◌}
 use mathlib.Core.Path.{◌≡◌, refl, sym, ap, ◌∙◌}
 use mathlib.Core.List.{List, [], ◌∷◌, ◌++◌, append_assoc}
 use native.Mathlib.Omega.{arith}
-use lib.ListN.{length, drop, set, length-append, length-take, length-drop}
-use lib.Seq.{take_all, take_at, drop-append-add, drop-drop, sets-eq, paste}
+use lib.ListN.{length, take, drop, set, length-append, length-take, length-drop}
+use lib.Seq.{take_at, drop_at, drop-append-add, drop-drop, sets-eq}
 use borrow.Author.Tests.{le-ltb}
 use Rattle.lists.specs.Array.{array_at}
 use Rattle.lists.proofs.Arrays.{array_at-whole}
@@ -35,43 +35,45 @@ lent-arrays words l = record {
 
 pub read_table : (words : List ℕ) (shape : Shape) (weights used numerators denominators counters : List ℕ)
     → shape ≡ shape_from words → weights ≡ array_at 256 words weights_offset 256 → used ≡ array_at 256 words used_offset 256
-    → numerators ≡ array_at 256 words numerators_offset 256 → denominators ≡ array_at 256 words denominators_offset 256 → counters ≡ counters_from words
+    → numerators ≡ array_at 256 words numerators_offset 256 → denominators ≡ array_at 256 words denominators_offset 256 → counters ≡ array_at 8 words counters_offset 8
     → table_by shape weights used numerators denominators counters ≡ table_from words
 unfolding table_from
 read_table words shape weights used numerators denominators counters s a b c d e =
     let whole = array_at-whole 256 words in
-    rw (s, a, b, c, d, e, whole weights_offset, whole used_offset, whole numerators_offset, whole denominators_offset)
+    rw (s, a, b, c, d, e, whole weights_offset, whole used_offset, whole numerators_offset, whole denominators_offset, array_at-whole 8 words counters_offset)
 
 -- words of which the first n are a run x, and the rest are as lent
 record Front (w x words : List ℕ) (n : ℕ) : Type 0 where
   long : length x ≡ n
   front : words ≡ x ++ drop n w
 
+-- a part of the words replaced
+abbrev put : ℕ → ℕ → List ℕ → List ℕ → List ℕ
+put at size words part = take at words ++ (part ++ drop size (drop at words))
+
 -- an array stored next
-front-more : (w x words words' a : List ℕ) (n : ℕ) (size : ℕ) → Front w x words n → length a ≡ size → words' ≡ paste words n a (length a) → Front w (x ++ a) words' (n + size)
-front-more w x words words' a n size f l e = record {
+front-more : (w x words a : List ℕ) (n size : ℕ) → Front w x words n → length a ≡ size → Front w (x ++ a) (put n size words a) (n + size)
+front-more w x words a n size f l = record {
   long = length-append x a ∙ omega (arith, f.long);
-  front =
-      e
-      ∙ rw (l, f.front, take_at x (drop n w) n f.long, take_all size a (omega arith), ← f.long, drop-append-add x (drop (length x) w) size, drop-drop size (length x) w);
+  front = rw (f.front, take_at x (drop n w) n f.long, drop_at x (drop n w) n f.long, drop-drop size n w) (sym (append_assoc x a _));
 }
 
 -- the whole table
-pub stored-table : (w : List ℕ) (t : Table) (w₁ w₂ w₃ w₄ w₅ : List ℕ) → table_length ≤ length w → Arrays t
-    → w₁ ≡ paste (set (set (set w capacity_offset t.capacity) salt_offset t.salt) count_offset t.count) weights_offset t.weights (length t.weights)
-    → w₂ ≡ paste w₁ used_offset t.used (length t.used) → w₃ ≡ paste w₂ numerators_offset t.numerators (length t.numerators)
-    → w₄ ≡ paste w₃ denominators_offset t.denominators (length t.denominators) → w₅ ≡ paste w₄ counters_offset t.counters (length t.counters)
-    → w₅ ≡ with_table w t
+pub stored-table : (w : List ℕ) (t : Table) (weights used numerators denominators counters : List ℕ) → table_length ≤ length w → Arrays t
+    → weights ≡ t.weights → used ≡ t.used → numerators ≡ t.numerators → denominators ≡ t.denominators → counters ≡ t.counters
+    → put counters_offset 8 (put denominators_offset 256 (put numerators_offset 256 (put used_offset 256 (put weights_offset 256
+    (set (set (set w capacity_offset t.capacity) salt_offset t.salt) count_offset t.count) weights) used) numerators) denominators) counters
+    ≡ with_table w t
 unfolding with_table words_of
-stored-table w t w₁ w₂ w₃ w₄ w₅ l a e₁ e₂ e₃ e₄ e₅ =
+stored-table w t weights used numerators denominators counters l a e₁ e₂ e₃ e₄ e₅ =
     let words : List ℕ = t.capacity ∷ t.salt ∷ t.count ∷ [] in
     let f₀ : Front w words (set (set (set w capacity_offset t.capacity) salt_offset t.salt) count_offset t.count) weights_offset = record { long = refl; front = sets-eq words w 0 (omega arith) } in
-    let f₁ = front-more w words _ w₁ t.weights weights_offset 256 f₀ a.weights e₁ in
-    let f₂ = front-more w _ w₁ w₂ t.used used_offset 256 f₁ a.used e₂ in
-    let f₃ = front-more w _ w₂ w₃ t.numerators numerators_offset 256 f₂ a.numerators e₃ in
-    let f₄ = front-more w _ w₃ w₄ t.denominators denominators_offset 256 f₃ a.denominators e₄ in
-    let f₅ = front-more w _ w₄ w₅ t.counters counters_offset 8 f₄ a.counters e₅ in
-    rw (le-ltb (length w) table_length l) f₅.front
+    let f₁ = front-more w words _ t.weights weights_offset 256 f₀ a.weights in
+    let f₂ = front-more w _ _ t.used used_offset 256 f₁ a.used in
+    let f₃ = front-more w _ _ t.numerators numerators_offset 256 f₂ a.numerators in
+    let f₄ = front-more w _ _ t.denominators denominators_offset 256 f₃ a.denominators in
+    let f₅ = front-more w _ _ t.counters counters_offset 8 f₄ a.counters in
+    rw (le-ltb (length w) table_length l, e₁, e₂, e₃, e₄, e₅) f₅.front
 
 -- a table stored is the table that is lent next
 skip : (a rest : List ℕ) (n : ℕ) → length a ≡ 256 → drop (256 + n) (a ++ rest) ≡ drop n rest
