@@ -63,7 +63,8 @@ fn takes(weights: &[u32], limits: &Column, steps: &[u32], salt: u32, id: u32, k:
     (0 < weights[k]) & (draw <= limits[k])
 }
 
-// Whether one of a block of servers takes an id. All are looked at, so that the compiler compares several at a time.
+// Whether one of a block of servers takes an id. All are looked at, so that the compiler compares several at a time: `any` would
+// leave at the first that takes.
 fn some_takes(
     weights: &[u32],
     limits: &Column,
@@ -84,7 +85,8 @@ fn some_takes(
     found
 }
 
-// The highest server of a block that takes an id, counted from the block's first; 0 where none does.
+// The highest server of a block that takes an id, counted from the block's first; 0 where none does. `some_takes` stands beside it
+// for speed: most blocks have none that takes, and it is the cheaper test.
 fn highest_of(
     weights: &[u32],
     limits: &Column,

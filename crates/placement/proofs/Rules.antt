@@ -9,7 +9,7 @@ use lib.Dec.{eqb}
 use borrow.Author.Tests.{eqb-true, eqb-false, ne_eqb}
 use Rattle.lists.specs.Below.{highest, or_zero, total}
 use Rattle.lists.proofs.Tests.{by_bool}
-use Rattle.lists.proofs.Below.{Highest, highest-is, highest-only, highest-cong, highest-found, highest-passed, highest-above, total-cong, total-le}
+use Rattle.lists.proofs.Below.{Highest, highest-is, highest-only, highest-cong, highest-found, highest-passed, highest-end, highest-above, total-cong, total-le}
 use Rattle.draws.specs.Draw.{modulus, draw_of}
 use Rattle.draws.proofs.Draws.{draw<}
 use Rattle.placement.specs.declared.Fraction.{Fraction}
@@ -96,6 +96,10 @@ takes-last m draw weight (suc k) l =
     rw (sub-one, ne_eqb k 0 (λ e. omega arith)) (by_bool (eqb (weight k) 0)
     (λ d. rw (d, eqb-true (weight k) 0 d, zero-exceeds-none m 1 (draw k)) (sym (zero-exceeds-none m (total weight (suc k)) (draw k))))
     (λ d. rw d refl))
+
+-- where at most server 0 is left it is picked
+pub pick-last : (p : ℕ → Bool) (k : ℕ) → k ≤ 1 → or_zero (highest p k) ≡ 0
+pick-last p k l = highest-end p k l
 
 -- the write server of an id is the highest that takes it of the k servers that are left
 abbrev pub LeftOf : (ℕ → ℕ) → ℕ → ℕ → ℕ → ℕ → Type 0
