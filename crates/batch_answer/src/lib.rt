@@ -43,14 +43,7 @@ pub fn has(numbers: &[u16; MAX_IDS], n: usize, x: u16) -> bool
     requires { n ≤ max_ids }
     ensures { result ≡ some_below (λ i. eqb (nth numbers.now i) x) n }
 {
-    let mut i: usize = 0;
-    while i < n {
-        if numbers[i] == x {
-            return true;
-        }
-        i += 1;
-    }
-    false
+    numbers[..n].contains(&x)
 }
 
 // The sum of a batch's numbers.
@@ -58,11 +51,5 @@ pub fn sum(numbers: &[u32]) -> usize
     requires { length numbers.now ≡ max_ids }
     ensures { result ≡ total (nth numbers.now) max_ids }
 {
-    let mut sum: usize = 0;
-    let mut i: usize = 0;
-    while i < MAX_IDS {
-        sum += numbers[i] as usize;
-        i += 1;
-    }
-    sum
+    numbers.iter().map(|number| *number as usize).sum()
 }

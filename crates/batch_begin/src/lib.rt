@@ -19,6 +19,7 @@ pub struct Parts {
 }
 
 // The refusal of an id before any server is opened, by what the tests say of an id in range that is the caller's own.
+#[tactic(auto, unfolding(crate::specs::Begin::first_refusal, crate::specs::Begin::absent_so_far))]
 fn first_refusal(number: u32, tenant: u32, id: u32) -> u32
     ensures { result ≡ first_refusal number tenant id }
 {
@@ -48,10 +49,8 @@ pub fn begin(number: u32, tenant: u32, ids: &[u32]) -> Parts
         opened: [0; MAX_IDS],
         ends: [0; MAX_IDS],
     };
-    let mut i: usize = 0;
-    while i < ids.len() {
-        parts.refusals[i] = first_refusal(number, tenant, ids[i]);
-        i += 1;
+    for (i, id) in ids.iter().enumerate() {
+        parts.refusals[i] = first_refusal(number, tenant, *id);
     }
     parts
 }

@@ -42,8 +42,7 @@ fn store_replies(batch: Batch, n: usize, replies: &mut [u32])
     requires by_index { (i : ℕ) → i < n → nth batch.opened i < 4294967296 }
     ensures { replies.new ≡ with_replies (lookup_part batch) n replies.old }
 {
-    let mut i: usize = 0;
-    while i < n {
+    for i in 0..n {
         let reply = Reply {
             refusal: batch.refusals[i],
             server: 0,
@@ -52,7 +51,6 @@ fn store_replies(batch: Batch, n: usize, replies: &mut [u32])
             invalidated: 0,
         };
         encoding::store(replies, REPLY_LENGTH * i, reply);
-        i += 1;
     }
 }
 
@@ -63,11 +61,7 @@ fn store_front(array: &[u32; MAX_IDS], n: usize, words: &mut [u32])
     requires n_in_bounds { n ≤ length words.old }
     ensures { words.new ≡ set_below (nth array.now) n words.old }
 {
-    let mut i: usize = 0;
-    while i < n {
-        words[i] = array[i];
-        i += 1;
-    }
+    words[..n].copy_from_slice(&array[..n]);
 }
 
 // Looks many ids up together for a tenant, on the parts of the words that are the table's columns. The caller counts the servers

@@ -8,6 +8,7 @@ ghost use Rattle.counters.specs.Counter.{grown, counted, in_bounds};
 use limits::MAX_COUNTER;
 
 // A counter after servers were opened: it grows by their number and stops at its bound.
+#[tactic(auto, unfolding(crate::specs::Counter::grown))]
 pub fn grown(counter: u32, opened: usize) -> u32
     ensures { result ≡ grown counter opened }
 {
@@ -23,6 +24,7 @@ pub fn grown(counter: u32, opened: usize) -> u32
 }
 
 // Counts the servers that were opened for a tenant. A number that is no tenant's has no counter.
+#[tactic(auto, using(std::proofs::lemmas::List::set_past), unfolding(crate::specs::Counter::counted))]
 pub fn count(counters: &mut [u32], tenant: u32, opened: usize)
     ensures { counters.new ≡ counted counters.old tenant opened }
 {
@@ -32,16 +34,14 @@ pub fn count(counters: &mut [u32], tenant: u32, opened: usize)
     }
 }
 
-// Whether no counter is above its bound.
+// Whether no counter is above its bound. All are looked at: `all` would leave at the first that is, by a branch for each.
 pub fn in_bounds(counters: &[u32]) -> bool
     requires { length counters.now ≡ tenants }
     ensures { result ≡ in_bounds counters.now }
 {
     let mut within = true;
-    let mut i: usize = 0;
-    while i < counters.len() {
-        within = within & (counters[i] <= MAX_COUNTER);
-        i += 1;
+    for counter in counters {
+        within &= *counter <= MAX_COUNTER;
     }
     within
 }

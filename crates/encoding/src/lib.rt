@@ -45,10 +45,11 @@ pub const TOO_SHORT: u32 = 4294967294;
 pub fn room(calls: usize, replies: usize) -> usize
     ensures { result ≡ room_for calls replies }
 {
-    lists::lesser(calls / CALL_LENGTH, replies / REPLY_LENGTH)
+    (calls / CALL_LENGTH).min(replies / REPLY_LENGTH)
 }
 
 // Stores the eight words of a reply, from a word on.
+#[tactic(auto, unfolding(crate::specs::Encoding::with_reply_at))]
 pub fn store(replies: &mut [u32], at: usize, reply: Reply)
     requires reply_length_in_bounds { at + reply_length ≤ length replies.old }
     requires server_bound { (reply.server < 4294967296) × (reply.opened < 4294967296) × (reply.invalidated < 4294967296) }

@@ -10,6 +10,7 @@ use replies::{ADD_SERVER, DELETE, LOOKUP, REWEIGHT, WRITE};
 pub const START: u8 = 83;
 
 // The letter of a call by its number: F, G, W, D and L; 0 where the number is no call.
+#[tactic(auto, unfolding(crate::specs::Letter::letter_of, crate::specs::Letter::letters))]
 pub fn letter_of(number: u32) -> u8
     ensures { result ≡ letter_of number }
 {
@@ -27,11 +28,9 @@ pub fn letter_of(number: u32) -> u8
 pub fn number_for(letter: u8) -> u32
     ensures { result ≡ number_for letter }
 {
-    let mut left: u32 = 6;
-    while left > 0 {
-        left -= 1;
-        if letter_of(left) == letter {
-            return left;
+    for number in (1..6).rev() {
+        if letter_of(number) == letter {
+            return number;
         }
     }
     0

@@ -146,6 +146,14 @@ highest-end p zero l = refl
 highest-end p (suc zero) l = by_bool (p 0) (λ e. rw e refl) (λ e. rw e refl)
 highest-end p (suc (suc n)) l = absurd (omega arith)
 
+-- a loop that goes down: the last of the numbers left is the choice where it passes, and else it is among the others
+pub highest-found : (p : ℕ → Bool) (n : ℕ) → 0 < n → p (n - 1) ≡ true → or_zero (highest p n) ≡ n - 1
+unfolding or_zero
+highest-found p n l e = ap or_zero (highest-last p n true l e)
+
+pub highest-passed : (p : ℕ → Bool) (n : ℕ) → 0 < n → p (n - 1) ≡ false → or_zero (highest p n) ≡ or_zero (highest p (n - 1))
+highest-passed p n l e = ap or_zero (highest-last p n false l e)
+
 -- so whether 0 passes does not matter
 pub highest-above : (p q : ℕ → Bool) (n : ℕ) → ((k : ℕ) → 0 < k → k < n → p k ≡ q k) → or_zero (highest p n) ≡ or_zero (highest q n)
 unfolding highest

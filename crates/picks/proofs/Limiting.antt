@@ -1,6 +1,6 @@
 -- Laws of servers with their limits.
 -- Assumes nothing.
-use Prim.Native.Nat.{ℕ, ◌+◌, ◌-◌, ◌≤◌, ◌<◌}
+use Prim.Native.Nat.{ℕ, ◌+◌, ◌≤◌, ◌<◌}
 use mathlib.Core.Path.{◌≡◌, sym, ap, ◌∙◌}
 use mathlib.Core.Bool.{Bool, true, false, ◌&&◌}
 use mathlib.Core.List.{List}
@@ -11,7 +11,7 @@ use lib.Dec.{leb, ltb, eqb}
 use borrow.Author.Tests.{eqb-true, eqb-false}
 use Rattle.lists.specs.Below.{nth, some_below, highest, or_zero, total}
 use Rattle.lists.proofs.Tests.{by_bool}
-use Rattle.lists.proofs.Below.{highest-down, highest-among}
+use Rattle.lists.proofs.Below.{highest-past, highest-among}
 use Rattle.draws.specs.Draw.{modulus, draw_of}
 use Rattle.draws.proofs.Draws.{draw<}
 use Rattle.placement.specs.Fraction.{exceeds}
@@ -48,16 +48,14 @@ ServedBy ws salt id k = write_server (nth ws) (length ws) salt id ≡ or_zero (h
 pub served-all : (ws : List ℕ) (salt id : ℕ) → ServedBy ws salt id (length ws)
 served-all ws salt id = write_server-parts (nth ws) (length ws) salt id
 
--- the last d of the k servers: whether one of them takes the id
-module _ (ws : List ℕ) (salt id k d : ℕ) (b : Bool) (enough : d ≤ k) (served : ServedBy ws salt id k) (e : b ≡ some_below (λ i. passes ws salt id (k - d + i)) d) where
-  pub served-past : b ≡ false → ServedBy ws salt id (k - d)
-  served-past f = served ∙ sym (ap or_zero (highest-down (passes ws salt id) k d b enough e f))
+-- the last d of the k servers that are left: whether one of them takes the id
+module _ (ws : List ℕ) (salt id k from d : ℕ) (b : Bool) (whole : k ≡ from + d) (served : ServedBy ws salt id k)
+    (e : b ≡ some_below (λ i. passes ws salt id (from + i)) d) where
+  pub served-past : b ≡ false → ServedBy ws salt id from
+  served-past f = (rw whole at served) ∙ ap or_zero (highest-past (passes ws salt id) from d (sym e ∙ f))
 
-  pub served-among : (r : ℕ) → b ≡ true → r ≡ or_zero (highest (λ i. passes ws salt id (k - d + i)) d) → k - d + r ≡ write_server (nth ws) (length ws) salt id
-  served-among r t f =
-      let whole : k - d + d ≡ k = omega arith in
-      let among = highest-among (passes ws salt id) (k - d) d (sym e ∙ t) in
-      ap (λ (i : ℕ). k - d + i) f ∙ sym (served ∙ (rw whole at among))
+  pub served-among : (r : ℕ) → b ≡ true → r ≡ or_zero (highest (λ i. passes ws salt id (from + i)) d) → from + r ≡ write_server (nth ws) (length ws) salt id
+  served-among r t f = ap (λ (i : ℕ). from + i) f ∙ sym ((rw whole at served) ∙ highest-among (passes ws salt id) from d (sym e ∙ t))
 
 -- the k servers that are left, too few for a block
 pub served-rest : (ws : List ℕ) (salt id k r : ℕ) → ServedBy ws salt id k → r ≡ write_server (nth ws) k salt id → r ≡ write_server (nth ws) (length ws) salt id

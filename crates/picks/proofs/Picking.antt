@@ -1,20 +1,24 @@
 -- Laws of the write servers over weights that passed their test.
 -- Assumes nothing.
-use Prim.Native.Nat.{ℕ, ◌<◌, min}
-use mathlib.Core.Path.{◌≡◌, refl}
-use mathlib.Core.Bool.{true, false, ◌&&◌}
+use Prim.Native.Nat.{ℕ, ◌<◌, ◌≤◌}
+use mathlib.Core.Path.{◌≡◌, ap}
+use mathlib.Core.Bool.{true}
 use mathlib.Core.List.{List}
 use native.Mathlib.Omega.{arith}
-use lib.ListN.{length}
-use lib.Dec.{leb, ltb}
-use borrow.Author.Tests.{leb-true, lt-ltb}
-use Rattle.limits.specs.Limits.{content_range}
-use Rattle.lists.specs.Below.{nth, set_below}
+use lib.ListN.{length, take}
+use Rattle.std.proofs.lemmas.List.{length-take-le, get_or-take}
+use lib.Dec.{leb}
+use borrow.Author.Tests.{leb-true, lt-ltb, le-ltb, le-leb, lt-leb}
+use Rattle.std.specs.List.{list_all}
+use Rattle.limits.specs.Limits.{max_capacity}
+use Rattle.lists.specs.Below.{nth, all_below, set_below}
 use Rattle.lists.proofs.Tests.{and_l, and_r}
-use Rattle.lists.proofs.Below.{all_below-out, highest-le}
+use Rattle.std.proofs.lemmas.Bool.Decides.{nat_tests}
+use Rattle.lists.proofs.Listed.{all_below-list}
+use Rattle.lists.proofs.Below.{all_below-out, highest-le, set_below-cong}
 use Rattle.draws.specs.Draw.{modulus, draw_of}
 use Rattle.placement.specs.Rule.{write_p, takes, pick, write_server, Bounded}
-use Rattle.picks.specs.Picks.{light, bounded, picks_of}
+use Rattle.picks.specs.Picks.{light, bounded}
 
 pub bounded-facts : (ws : List ℕ) → bounded ws ≡ true → Bounded ws (length ws)
 unfolding bounded
@@ -32,17 +36,17 @@ pub picked-small : (ws : List ℕ) (salt : ℕ) (ids : List ℕ) (i k : ℕ) →
 unfolding write_server pick
 picked-small ws salt ids i k B e = omega (arith, highest-le (takes modulus (draw_of salt (nth ids i)) (write_p (nth ws))) (length ws), B.few)
 
--- what `picks` ensures where it answers n
-abbrev pub Done : List ℕ → ℕ → List ℕ → List ℕ → ℕ → List ℕ → Type 0
-Done ws salt ids servers n servers' = (n ≡ picks_of ws salt ids servers) × (servers' ≡ set_below (server_of ws salt ids) n servers)
+-- the first n ids have the write servers that they have among all
+pub first-picked : (ws : List ℕ) (salt : ℕ) (ids servers : List ℕ) (n : ℕ) → n ≤ length ids
+    → set_below (server_of ws salt (take n ids)) (length (take n ids)) servers ≡ set_below (server_of ws salt ids) n servers
+first-picked ws salt ids servers n l =
+    rw (length-take-le n ids l)
+    (set_below-cong _ _ n servers (λ k a. ap (λ (id : ℕ). write_server (nth ws) (length ws) salt id) (get_or-take n ids k 0 a)))
 
-module _ (ws : List ℕ) (salt : ℕ) (ids servers : List ℕ) where
-  -- the weights are not bounded, or the salt is out of range
-  pub none-picked : bounded ws && ltb salt content_range ≡ false → Done ws salt ids servers 0 servers
-  unfolding picks_of set_below
-  none-picked b = rw b (refl, refl)
+pub ruleset picking = (bounded-facts, first-picked, le-ltb, lt-ltb)
 
-  pub all-picked : (n : ℕ) (servers' : List ℕ) → bounded ws ≡ true → salt < 1073741824 → n ≡ min (length ids) (length servers)
-      → servers' ≡ set_below (server_of ws salt ids) n servers → Done ws salt ids servers n servers'
-  unfolding picks_of
-  all-picked n servers' b s e d = rw (b, lt-ltb salt 1073741824 s) (e, d)
+-- the test of all weights, by the library's word
+pub light-all : (ws : List ℕ) → all_below (light ws) (length ws) ≡ list_all (λ w. leb w max_capacity) ws
+light-all ws = all_below-list (λ w. leb w max_capacity) ws
+
+pub ruleset bounding = (light-all, le-leb, lt-leb, nat_tests)

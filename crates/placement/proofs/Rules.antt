@@ -2,14 +2,14 @@
 -- Assumes nothing.
 use Prim.Native.Nat.{ℕ, zero, suc, ◌-◌, ◌≤◌, ◌<◌}
 use mathlib.Core.Path.{◌≡◌, refl, sym, ap, ap₂, ◌∙◌}
-use mathlib.Core.Bool.{Bool, true}
+use mathlib.Core.Bool.{Bool, true, false}
 use native.Mathlib.Numerals.{sub-one}
 use native.Mathlib.Omega.{arith}
 use lib.Dec.{eqb}
 use borrow.Author.Tests.{eqb-true, eqb-false, ne_eqb}
 use Rattle.lists.specs.Below.{highest, or_zero, total}
 use Rattle.lists.proofs.Tests.{by_bool}
-use Rattle.lists.proofs.Below.{Highest, highest-is, highest-only, highest-cong, highest-above, total-cong, total-le}
+use Rattle.lists.proofs.Below.{Highest, highest-is, highest-only, highest-cong, highest-found, highest-passed, highest-end, highest-above, total-cong, total-le}
 use Rattle.draws.specs.Draw.{modulus, draw_of}
 use Rattle.draws.proofs.Draws.{draw<}
 use Rattle.placement.specs.declared.Fraction.{Fraction}
@@ -99,10 +99,23 @@ takes-last m draw weight (suc k) l =
 
 -- where at most server 0 is left it is picked
 pub pick-last : (p : ℕ → Bool) (k : ℕ) → k ≤ 1 → or_zero (highest p k) ≡ 0
-unfolding highest or_zero
-pick-last p zero l = refl
-pick-last p (suc zero) l = by_bool (p 0) (λ e. rw e refl) (λ e. rw e refl)
-pick-last p (suc (suc k)) l = absurd (omega arith)
+pick-last p k l = highest-end p k l
+
+-- the write server of an id is the highest that takes it of the k servers that are left
+abbrev pub LeftOf : (ℕ → ℕ) → ℕ → ℕ → ℕ → ℕ → Type 0
+LeftOf weight n salt id k = write_server weight n salt id ≡ or_zero (highest (takes modulus (draw_of salt id) (write_p weight)) k)
+
+-- by the test of the last of them it is that one, or one of the others
+module _ (weight : ℕ → ℕ) (n salt id k sum : ℕ) (b : Bool) (more : 1 < k) (left : LeftOf weight n salt id k) (all : sum ≡ total weight k)
+    (e : b ≡ exceeds modulus (record { num = weight (k - 1); den = sum }) (draw_of salt id (k - 1))) where
+  test : takes modulus (draw_of salt id) (write_p weight) (k - 1) ≡ b
+  test = rw (e, all) (takes-last modulus (draw_of salt id) weight k more)
+
+  pub last_takes : b ≡ true → k - 1 ≡ write_server weight n salt id
+  last_takes t = sym (left ∙ highest-found _ k (omega arith) (test ∙ t))
+
+  pub last_passed : b ≡ false → LeftOf weight n salt id (k - 1)
+  last_passed f = left ∙ highest-passed _ k (omega arith) (test ∙ f)
 
 -- the write server by weight over sum alone: what server 0 is tested by does not matter
 pub write_server-parts : (weight : ℕ → ℕ) (n salt id : ℕ)

@@ -19,10 +19,11 @@ pub struct Fraction {
 }
 
 // Whether a fraction exceeds a draw's RAND, which is the draw over 2^32.
+#[tactic(auto, unfolding(crate::specs::Fraction::exceeds))]
 pub fn exceeds(f: Fraction, draw: u32) -> bool
     ensures { result ≡ exceeds modulus f draw }
 {
-    (draw as u64) * (f.den as u64) < (f.num as u64) * 4294967296
+    u64::from(draw) * u64::from(f.den) < u64::from(f.num) * 4294967296
 }
 
 // The greatest draw that a fraction exceeds, if it exceeds any, which it does where it is not 0.
@@ -35,19 +36,21 @@ pub fn limit(f: Fraction) -> u32
         return 0;
     }
     if num > den {
-        return 4294967295;
+        return u32::MAX;
     }
-    (((num as u64) * 4294967296 - 1) / (den as u64)) as u32
+    ((u64::from(num) * 4294967296 - 1) / u64::from(den)) as u32
 }
 
 // Whether one fraction is at least another.
+#[tactic(auto, unfolding(crate::specs::Fraction::at_least))]
 pub fn at_least(p: Fraction, q: Fraction) -> bool
     ensures { result ≡ at_least p q }
 {
-    (q.num as u64) * (p.den as u64) <= (p.num as u64) * (q.den as u64)
+    u64::from(q.num) * u64::from(p.den) <= u64::from(p.num) * u64::from(q.den)
 }
 
 // WriteP of a server with this weight, `sum` being the weights of the servers up to it, its own among them.
+#[tactic(auto, unfolding(crate::specs::Rule::share_of))]
 pub fn write_p(server: usize, weight: u32, sum: u32) -> Fraction
     ensures { result ≡ share_of server weight sum }
 {
@@ -77,13 +80,7 @@ pub fn sum_weights(weights: &[u32], count: usize) -> u32
     requires { Bounded weights.now count }
     ensures { result ≡ total (nth weights.now) count }
 {
-    let mut sum: u32 = 0;
-    let mut i: usize = 0;
-    while i < count {
-        sum += weights[i];
-        i += 1;
-    }
-    sum
+    weights[..count].iter().sum()
 }
 
 // The write server of an id under a salt among `count` servers: from the highest down, the first whose WriteP exceeds its draw.
@@ -94,9 +91,7 @@ pub fn write_server(weights: &[u32], steps: &Steps, count: usize, salt: u32, id:
     ensures { result ≡ write_server (nth weights.now) count salt id }
 {
     let mut sum = sum_weights(weights, count);
-    let mut k = count;
-    while 1 < k {
-        k -= 1;
+    for k in (1..count).rev() {
         let weight = weights[k];
         let write = Fraction {
             num: weight,

@@ -1,15 +1,15 @@
--- `batch_answer::sum` meets its contract. The invariant: the sum of the numbers passed.
-use mathlib.Core.Path.{refl}
-use native.Mathlib.Omega.{arith}
-use borrow.Author.Rules.{rules}
-use Rattle.lists.specs.Below.{total}
-use Rattle.lists.proofs.Below.{total-more}
+-- `batch_answer::sum` meets its contract: the sum of 256 numbers below 2^32 fits.
+use Rattle.std.proofs.Common.{◌≡◌, ◌∙◌, sym, sum, ap, rules, arith}
+use Rattle.std.proofs.iter.runs.Sources.{sums}
+use Rattle.std.proofs.lemmas.List.{take_all}
+use Rattle.lists.proofs.Listed.{total-sum}
 use Rattle.batch_answer.proofs.sum.Goals as goal
 
-pub loop-i-init : goal.loop-i-init
-unfolding total
-loop-i-init c = (search rules, refl, search rules)
+pub returns : goal.returns
+returns c =
+    let ns = c.args.numbers.now in
+    let all : c.sum.result ≡ sum ns = search rules in
+    all ∙ sym (total-sum ns 256 (omega arith) ∙ ap sum (take_all 256 ns (omega arith)))
 
-pub loop-i-preserved : goal.loop-i-preserved
-loop-i-preserved c =
-    (search rules, rw total-more (cc), omega (arith, c.shared_slice_known-1.given c.loop-i.i))
+pub sum-requires-clause-fits : goal.sum-requires-clause-fits
+sum-requires-clause-fits c = search (rules, sums)

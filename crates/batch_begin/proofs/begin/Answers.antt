@@ -28,6 +28,4 @@ unfolding first_parts filled set_below
 loop-i-init c = search rules
 
 pub loop-i-preserved : goal.loop-i-preserved
-loop-i-preserved c =
-    let a = c.args in
-    (search rules, stored a.number a.tenant a.ids.now c.loop-i.i c.loop-i.parts _ c.loop-i.invariant.1 c.first_refusal.ensures)
+loop-i-preserved c = stored _ _ _ c.loop-i.i c.loop-i.parts _ c.loop-i.invariant c.first_refusal.ensures

@@ -3,11 +3,9 @@ use Prim.Native.Nat.{◌<◌}
 use mathlib.Core.Path.{◌≡◌, refl, sym, ◌∙◌}
 use native.Mathlib.Omega.{arith}
 use lib.ListN.{length}
-use borrow.Author.Rules.{rules}
-use borrow.Author.Tests.{not-true, not-false}
 use Rattle.table_words.specs.Words.{table_from}
 use Rattle.batch.specs.Batch.{batch_reply}
-use Rattle.batch_words.proofs.Storing.{Fits, long-runs, few-ids, opened-small, mounts-small, length-order, batch-short, batch-refused, batch-done}
+use Rattle.batch_words.proofs.Storing.{Fits, long-runs, few-ids, mounts-small, batch-short, batch-refused, batch-done}
 use Rattle.batch_words.proofs.lookup_batch.Goals as goal
 
 pub returns-then-not-fits-clause-number : goal.returns-then-not-fits-clause-number

@@ -1,12 +1,8 @@
 -- `letters::number_for` meets its contract. The invariant: the numbers left to look at give the letter's.
-use Prim.Native.Nat.{◌≤◌}
-use mathlib.Core.Path.{◌≡◌}
-use Rattle.letters.specs.Letter.{number_for}
-use Rattle.letters.proofs.Lettering.{number_below}
+use Rattle.std.proofs.Common.{◌≡◌, eqb}
+use Rattle.lists.specs.Below.{highest, or_zero}
+use Rattle.letters.specs.Letter.{letter_of, number_for}
 use Rattle.letters.proofs.number_for.Given as goal
 
-abbrev pub invariant-loop-left : goal.invariant-loop-left
-invariant-loop-left l = (l.left ≤ 6) × (number_for l.letter ≡ number_below l.letter l.left)
-
-abbrev pub decreases-loop-left : goal.decreases-loop-left
-decreases-loop-left l = l.left
+abbrev pub invariant-loop-number : goal.invariant-loop-number
+invariant-loop-number l = number_for l.letter ≡ or_zero (highest (λ n. eqb (letter_of n) l.letter) l.number)

@@ -17,4 +17,4 @@ returns-then-num-den c = λ x h.
 pub returns : goal.returns
 returns c = λ x h.
     let f = c.args.f in
-    rw (lt-ltb 0 f.num (search rules)) (proper-exceeds modulus f (search rules) (search rules) (search rules) x)
+    rw (c.from.ensures, c.from-2.ensures, lt-ltb 0 f.num (search rules)) (proper-exceeds modulus f (search rules) (search rules) (search rules) x)
