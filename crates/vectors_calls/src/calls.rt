@@ -119,7 +119,7 @@ fn lookup<W: Write>(
 fn show_word<W: Write>(out: &mut W, medium: &[u32], i: u32, text: &[u8]) -> io::Result<()> {
     let at = i as usize;
     if at < medium.len() {
-        print::print_number(out, text, print::wide(medium[at]))?;
+        print::print_number(out, text, u64::from(medium[at]))?;
     }
     Ok(())
 }
@@ -141,7 +141,7 @@ fn show_counter<W: Write>(
 ) -> io::Result<Table> {
     let at = tenant as usize;
     if at < TENANTS {
-        print::print_number(out, text, print::wide(table.counters[at]))?;
+        print::print_number(out, text, u64::from(table.counters[at]))?;
     }
     Ok(table)
 }

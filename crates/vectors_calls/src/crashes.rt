@@ -45,7 +45,7 @@ pub fn recover<W: Write>(
 ) -> io::Result<Table> {
     let recovered = recovery::recover(table, medium);
     let answer = recovered.answer;
-    print::print_number(out, text, print::wide(replies::check_number(answer)))?;
+    print::print_number(out, text, u64::from(replies::check_number(answer)))?;
     Ok(recovered.table)
 }
 
@@ -57,7 +57,7 @@ pub fn show_used<W: Write>(
 ) -> io::Result<Table> {
     let at = server as usize;
     if at < MAX_SERVERS {
-        print::print_number(out, text, print::wide(table.used[at]))?;
+        print::print_number(out, text, u64::from(table.used[at]))?;
     }
     Ok(table)
 }

@@ -30,10 +30,10 @@ fn picked(first: u32, second: u32, third: u32, salt: u32) -> u64
 fn number(letter: u8, a: u32, b: u32, c: u32, d: u32) -> u64 {
     let steps = draws::steps();
     match letter {
-        b'p' => draws::step(&steps, (a % 256) as usize) as u64,
-        b's' => draws::seed(&steps, c, a, (b % 256) as usize) as u64,
-        b'd' => draws::draw(&steps, c, a, (b % 256) as usize) as u64,
-        b'r' => rounds(a, b) as u64,
+        b'p' => u64::from(draws::step(&steps, (a % 256) as usize)),
+        b's' => u64::from(draws::seed(&steps, c, a, (b % 256) as usize)),
+        b'd' => u64::from(draws::draw(&steps, c, a, (b % 256) as usize)),
+        b'r' => u64::from(rounds(a, b)),
         _ => picked(a % 65537, b % 65537, c % 65537, d),
     }
 }
@@ -53,10 +53,7 @@ pub fn show_draw<W: Write>(
     numbers: [u32; 8],
     text: &[u8],
 ) -> io::Result<()> {
-    let a = numbers[0];
-    let b = numbers[1];
-    let c = numbers[2];
-    let d = numbers[3];
+    let [a, b, c, d, ..] = numbers;
     match letter {
         b'e' => print::test(out, text, exceeds(a, b, c)),
         b'l' => print::test(out, text, at_least(a, b, c, d)),
