@@ -17,16 +17,12 @@ fn longest<W: Write>(
     let ids: [u32; 257] = [2; 257];
     if over {
         let looked = batch::lookup_batch(table, medium, 0, &ids);
-        vectors_calls::print_number(out, text, looked.batch.refusal as u64)?;
+        vectors_calls::print_number(out, text, u64::from(looked.batch.refusal))?;
         return Ok(looked.table);
     }
     let looked = batch::lookup_batch(table, medium, 0, &ids[..256]);
-    vectors_calls::print_number(out, text, looked.batch.refusal as u64)?;
+    vectors_calls::print_number(out, text, u64::from(looked.batch.refusal))?;
     Ok(looked.table)
-}
-
-fn wide(x: u32) -> u64 {
-    x as u64
 }
 
 // 1 is the refusal of the whole batch, 2 its mounts, 4 the refusal at a position, 5 the position that is found at this place.
@@ -34,10 +30,10 @@ fn part(batch: Batch, letter: u8, i: usize) -> u64
     requires { i < 256 }
 {
     match letter {
-        b'1' => batch.refusal as u64,
+        b'1' => u64::from(batch.refusal),
         b'2' => batch.mounts as u64,
-        b'4' => wide(batch.refusals[i]),
-        _ => wide(batch.order[i]),
+        b'4' => u64::from(batch.refusals[i]),
+        _ => u64::from(batch.order[i]),
     }
 }
 

@@ -47,6 +47,7 @@ fn run_all<W: Write>(out: &mut W, input: &[u8]) -> io::Result<()> {
     let mut medium = blank();
     let mut words: u32 = 0;
     let mut table = vectors_calls::start(1);
+    // A loop by hand: a text without a bar goes on over its line's end, so the cases are no parts that `split` would give.
     let mut at: usize = 0;
     while at < input.len() {
         let line = lines::read(input, at);
