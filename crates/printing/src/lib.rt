@@ -1,4 +1,5 @@
-// Printing into a lent buffer: each function puts its bytes at a position and answers the position after them.
+// Printing into a lent buffer: each function puts its bytes at a position and answers the position after them. The two stay apart,
+// since a struct that holds the `&mut` asks each contract for one clause more, that it still holds the same buffer.
 #![tactic(auto)]
 
 ghost use Rattle.std.specs.Prelude.{◌≡◌, ◌<◌, ◌≤◌, ◌+◌, length};
@@ -11,7 +12,7 @@ use replies::{ADD_SERVER, DELETE, LOOKUP, REWEIGHT, Reply, WRITE};
 // Bytes of the longest line that is printed: a letter, three numbers of ten digits, a blank before each, and LF.
 pub const LONGEST_LINE: usize = 35;
 
-// Puts a number without leading zeros.
+// Puts a number without leading zeros. The digits are put by hand, since no contract says what `write!` puts into a slice.
 fn put_number(out: &mut [u8], at: usize, x: u32) -> usize
     requires { at + 10 ≤ length out.old }
     ensures next { result ≡ at + length (decimal x) }

@@ -9,24 +9,15 @@ use table::Table;
 // The refusal of tenant 0's batch of 256 times id 2, or of one more.
 fn longest<W: Write>(
     out: &mut W,
-    table: Table,
+    table: &mut Table,
     medium: &[u32],
     over: bool,
     text: &[u8],
-) -> io::Result<Table> {
+) -> io::Result<()> {
     let ids: [u32; 257] = [2; 257];
-    if over {
-        let looked = batch::lookup_batch(table, medium, 0, &ids);
-        vectors_calls::print_number(out, text, looked.batch.refusal as u64)?;
-        return Ok(looked.table);
-    }
-    let looked = batch::lookup_batch(table, medium, 0, &ids[..256]);
-    vectors_calls::print_number(out, text, looked.batch.refusal as u64)?;
-    Ok(looked.table)
-}
-
-fn wide(x: u32) -> u64 {
-    x as u64
+    let n = if over { 257 } else { 256 };
+    let batch = batch::lookup_batch(table, medium, 0, &ids[..n]);
+    vectors_calls::print_number(out, text, u64::from(batch.refusal))
 }
 
 // 1 is the refusal of the whole batch, 2 its mounts, 4 the refusal at a position, 5 the position that is found at this place.
@@ -34,39 +25,35 @@ fn part(batch: Batch, letter: u8, i: usize) -> u64
     requires { i < 256 }
 {
     match letter {
-        b'1' => batch.refusal as u64,
+        b'1' => u64::from(batch.refusal),
         b'2' => batch.mounts as u64,
-        b'4' => wide(batch.refusals[i]),
-        _ => wide(batch.order[i]),
+        b'4' => u64::from(batch.refusals[i]),
+        _ => u64::from(batch.order[i]),
     }
 }
 
-// 3 is refusal, value and opened count at a position; 6 and 7 are the batches of 256 and of 257 ids. The table after the batch is
-// handed back.
+// 3 is refusal, value and opened count at a position; 6 and 7 are the batches of 256 and of 257 ids.
 pub fn show<W: Write>(
     out: &mut W,
-    table: Table,
+    table: &mut Table,
     medium: &[u32],
     letter: u8,
     numbers: [u32; 8],
     text: &[u8],
-) -> io::Result<Table> {
+) -> io::Result<()> {
     if letter >= b'6' {
         return longest(out, table, medium, letter == b'7', text);
     }
     let i = (numbers[5] % 256) as usize;
-    let looked = batch::lookup_batch(table, medium, numbers[6], &numbers[..5]);
-    let batch = looked.batch;
-    if letter == b'3' {
-        vectors_calls::print_three(
-            out,
-            text,
-            batch.refusals[i],
-            batch.values[i],
-            batch.opened[i],
-        )?;
-    } else {
-        vectors_calls::print_number(out, text, part(batch, letter, i))?;
+    let batch = batch::lookup_batch(table, medium, numbers[6], &numbers[..5]);
+    if letter != b'3' {
+        return vectors_calls::print_number(out, text, part(batch, letter, i));
     }
-    Ok(looked.table)
+    vectors_calls::print_three(
+        out,
+        text,
+        batch.refusals[i],
+        batch.values[i],
+        batch.opened[i],
+    )
 }

@@ -14,38 +14,27 @@ fn after(input: &[u8], from: usize, byte: u8) -> usize
     requires { from < length input.now }
     ensures { (from < result) × (result ≤ length input.now) }
 {
-    let mut i = from;
-    while i < input.len() {
-        let b = input[i];
-        i += 1;
-        if b == byte {
-            return i;
-        }
+    match input[from..].iter().position(|b| *b == byte) {
+        Some(n) => from + n + 1,
+        None => input.len(),
     }
-    i
 }
 
-// A number with one digit more.
+// A number with one digit more, modulo 2^32.
 fn longer(number: u32, digit: u8) -> u32 {
-    ((number as u64 * 10 + (digit % 16) as u64) % 4294967296) as u32
+    number.wrapping_mul(10).wrapping_add(u32::from(digit % 16))
 }
 
 // The numbers up to the line's end, a blank before each: the first blank leads from the last place to the first.
-fn numbers(input: &[u8], from: usize) -> [u32; 8] {
+fn numbers(input: &[u8]) -> [u32; 8] {
     let mut values: [u32; 8] = [0; 8];
     let mut k: usize = 7;
-    let mut i = from;
-    while i < input.len() {
-        let b = input[i];
-        if b == b'\n' {
-            break;
+    for b in input {
+        match *b {
+            b'\n' => break,
+            b' ' => k = (k + 1) % 8,
+            digit => values[k] = longer(values[k], digit),
         }
-        if b == b' ' {
-            k = (k + 1) % 8;
-        } else {
-            values[k] = longer(values[k], b);
-        }
-        i += 1;
     }
     values
 }
@@ -68,6 +57,6 @@ pub fn read(input: &[u8], at: usize) -> Case
         call,
         next: after(input, call, b'\n'),
         letter: input[call],
-        numbers: numbers(input, call + 1),
+        numbers: numbers(&input[call + 1..]),
     }
 }

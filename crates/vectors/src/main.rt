@@ -18,18 +18,17 @@ use table::Table;
 // A digit is for a part of a batch, a small letter for the method on plain numbers, and a capital letter for a call.
 fn run_case<W: Write>(
     out: &mut W,
-    table: Table,
+    table: &mut Table,
     medium: &mut [u32],
     letter: u8,
     numbers: [u32; 8],
     text: &[u8],
-) -> io::Result<Table> {
+) -> io::Result<()> {
     if letter <= b'9' {
         return batches::show(out, table, medium, letter, numbers, text);
     }
     if letter >= b'a' {
-        vectors_calls::show_draw(out, letter, numbers, text)?;
-        return Ok(table);
+        return vectors_calls::show_draw(out, letter, numbers, text);
     }
     vectors_calls::run_call(
         out, table, medium, letter, numbers[0], numbers[1], numbers[2], numbers[3], text,
@@ -47,6 +46,7 @@ fn run_all<W: Write>(out: &mut W, input: &[u8]) -> io::Result<()> {
     let mut medium = blank();
     let mut words: u32 = 0;
     let mut table = vectors_calls::start(1);
+    // A loop by hand: a text without a bar goes on over its line's end, so the cases are no parts that `split` would give.
     let mut at: usize = 0;
     while at < input.len() {
         let line = lines::read(input, at);
@@ -57,9 +57,9 @@ fn run_all<W: Write>(out: &mut W, input: &[u8]) -> io::Result<()> {
             words = numbers[0];
         } else {
             let n = (words % 769) as usize;
-            table = run_case(
+            run_case(
                 out,
-                table,
+                &mut table,
                 &mut medium[..n],
                 line.letter,
                 numbers,

@@ -2,8 +2,8 @@
 ghost use Rattle.std.specs.Prelude.{◌≤◌};
 ghost use Rattle.limits.specs.Limits.{max_capacity};
 
-use draws::Steps;
 use crate::print;
+use draws::Steps;
 use placement::Fraction;
 use std::io;
 use std::io::Write;
@@ -31,10 +31,10 @@ fn picked(first: u32, second: u32, third: u32, salt: u32) -> u64
 fn number(letter: u8, a: u32, b: u32, c: u32, d: u32) -> u64 {
     let steps = Steps::new();
     match letter {
-        b'p' => steps.step((a % 256) as usize) as u64,
-        b's' => steps.seed(c, a, (b % 256) as usize) as u64,
-        b'd' => steps.draw(c, a, (b % 256) as usize) as u64,
-        b'r' => rounds(a, b) as u64,
+        b'p' => u64::from(steps.step((a % 256) as usize)),
+        b's' => u64::from(steps.seed(c, a, (b % 256) as usize)),
+        b'd' => u64::from(steps.draw(c, a, (b % 256) as usize)),
+        b'r' => u64::from(rounds(a, b)),
         _ => picked(a % 65537, b % 65537, c % 65537, d),
     }
 }
@@ -54,10 +54,7 @@ pub fn show_draw<W: Write>(
     numbers: [u32; 8],
     text: &[u8],
 ) -> io::Result<()> {
-    let a = numbers[0];
-    let b = numbers[1];
-    let c = numbers[2];
-    let d = numbers[3];
+    let [a, b, c, d, ..] = numbers;
     match letter {
         b'e' => print::test(out, text, exceeds(a, b, c)),
         b'l' => print::test(out, text, at_least(a, b, c, d)),
