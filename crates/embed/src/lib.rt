@@ -44,11 +44,10 @@ pub extern "C" fn archive_start(capacity: u32, salt: u32, table: &mut [u32]) -> 
     if table.len() < table_words::TABLE_LENGTH {
         return encoding::TOO_SHORT;
     }
-    let begun = servers::start(capacity, salt);
-    let answer = begun.answer;
-    let reply = replies::start_reply(answer);
-    table_words::store_table(table, begun.table);
-    reply.refusal
+    let started = servers::start(capacity, salt);
+    let refusal = replies::check_number(&started);
+    table_words::store_table(table, &started.unwrap_or(table::empty(0, 0)));
+    refusal
 }
 
 // Runs the call at the front of its words, stores its reply and answers its refusal number.
