@@ -13,7 +13,7 @@ pub fn encode<W: Write>(
     words: &mut [u32],
     text: &[u8],
 ) -> io::Result<Table> {
-    let answer = image_writer::encode(table, words);
+    let answer = image_writer::encode(&table, words);
     match answer {
         EncodeAnswer::Encoded(n) => print::print_two(out, text, 0, n)?,
         EncodeAnswer::Refused(refusal) => {
