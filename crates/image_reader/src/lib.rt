@@ -53,7 +53,8 @@ fn read_column(image: &[u32], count: usize, place: usize, tag: u32) -> Option<Co
     Some(column)
 }
 
-// The counters, whose words begin at a word, if each has its tag.
+// The counters, whose words begin at a word, if each has its tag. One function of this and `read_column` would be no plainer: it
+// would take the first place, the step between places, the count, the size and the tag.
 fn read_counters(image: &[u32], from: usize) -> Option<Counters>
     requires { from + tenants ≤ length image.now }
     ensures { result
