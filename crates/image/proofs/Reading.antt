@@ -238,21 +238,21 @@ pub too_many : (words : List ℕ) → max_servers < count_in (length words) → 
 unfolding table_in
 too_many words l = untaken words (λ e. let few = taken-few words e in omega arith)
 
-pub not-long : (words : List ℕ) → length words ≢ image_length (count_in (length words)) → is_image words ≡ false
+pub not_long : (words : List ℕ) → length words ≢ image_length (count_in (length words)) → is_image words ≡ false
 unfolding table_in
-not-long words n = untaken words (λ e. n (taken-long words e))
+not_long words n = untaken words (λ e. n (taken-long words e))
 
-pub not-tagged : (words : List ℕ) → each_tagged words (count_in (length words)) ≡ false → is_image words ≡ false
+pub not_tagged : (words : List ℕ) → each_tagged words (count_in (length words)) ≡ false → is_image words ≡ false
 unfolding table_in
-not-tagged words n = untaken words (λ e. true-not-false (taken-tags words e) n)
+not_tagged words n = untaken words (λ e. true-not-false (taken-tags words e) n)
 
 pub not_sound : (words : List ℕ) → sound (table_in words) ≡ false → is_image words ≡ false
 not_sound words n = untaken words (λ e. true-not-false (taken-sound words e) n)
 
 -- and words that are
-pub all-taken : (words : List ℕ) → length words ≡ image_length (count_in (length words)) → each_tagged words (count_in (length words)) ≡ true → sound (table_in words) ≡ true → is_image words ≡ true
+pub all_taken : (words : List ℕ) → length words ≡ image_length (count_in (length words)) → each_tagged words (count_in (length words)) ≡ true → sound (table_in words) ≡ true → is_image words ≡ true
 unfolding is_image
-all-taken words long tags ok = and_i _ _ (eq-eqb _ _ long) (and_i _ _ tags ok)
+all_taken words long tags ok = and_i _ _ (eq-eqb _ _ long) (and_i _ _ tags ok)
 
 -- what decode answers of both
 pub decode-refused : (words : List ℕ) → is_image words ≡ false → (refused 12 0 ≡ decode_reply words) × (empty 0 0 ≡ decode_table words)

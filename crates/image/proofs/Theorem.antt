@@ -17,7 +17,7 @@ use Rattle.table.proofs.Soundness.{Arrays, empty-arrays, sound-facts}
 use Rattle.replies.specs.declared.Reply.{Reply}
 use Rattle.replies.specs.Reply.{accepted}
 use Rattle.replies.specs.Refusal.{rising}
-use Rattle.image.specs.declared.EncodeAnswer.TheVariants as encode
+use Rattle.std.specs.Prelude.{Ok}
 use Rattle.image.specs.Layout.{image_length, image_of}
 use Rattle.image.specs.Encoding.{EncodeReply, encode_rows, reply_of_encode, encode_reply}
 use Rattle.image.specs.Decoding.{table_in, is_image, decode_reply, decode_table}
@@ -91,15 +91,15 @@ unfolding encode_rows rising
 encode-rises t destination = refl
 
 -- numbers that fit into a word: how many words an image has, and the count of a table that was read
-pub encoded-few : (t : Table) (destination : List ℕ) (n : ℕ) → reply_of_encode (encode.Encoded n) ≡ encode_reply t destination → n ≤ image_length max_servers
+pub encoded_few : (t : Table) (destination : List ℕ) (n : ℕ) → reply_of_encode (Ok n) ≡ encode_reply t destination → n ≤ image_length max_servers
 unfolding reply_of_encode
-encoded-few t destination n e =
+encoded_few t destination n e =
     let r = room t destination (sym (ap (λ (r : EncodeReply). r.refusal) e)) in
     let long : n ≡ image_length t.count = ap (λ (r : EncodeReply). r.words) (e ∙ (encode-settled t destination r.0 r.1).0) in
     omega (arith, (sound-facts t r.0).few)
 
-pub decoded-few : (words : List ℕ) → (decode_table words).count ≤ max_servers
-decoded-few words = by_bool (is_image words)
+pub decoded_few : (words : List ℕ) → (decode_table words).count ≤ max_servers
+decoded_few words = by_bool (is_image words)
     (λ e. rw (← (decode-done words e).1) (sound-facts (table_in words) (taken-sound words e)).few)
     (λ e. rw (← (decode-refused words e).1) (omega arith))
 

@@ -9,21 +9,23 @@ use lib.ListN.{length, set, drop}
 use lib.Seq.{sets, sets-eq}
 use lib.Dec.{eqb}
 use borrow.Author.Tests.{eqb-true, lt-ltb, le-ltb}
-use Rattle.limits.specs.Limits.{tenants}
+use Rattle.limits.specs.Limits.{content_range, tenants}
 use Rattle.lists.specs.Below.{join_below}
 use Rattle.lists.proofs.Tests.{by_bool}
 use Rattle.lists.proofs.Below.{length-join, join_more, sets-append}
 use Rattle.words.specs.Word.{tagged}
 use Rattle.table.specs.declared.Table.{Table}
+use Rattle.counters.specs.Counter.{in_bounds}
+use Rattle.placement.specs.declared.Fraction.{Fraction}
+use Rattle.table.specs.Parts.{weight_of, used_of, read_p}
 use Rattle.table.specs.Sound.{sound}
+use Rattle.table.proofs.Soundness.{sound-facts}
 use Rattle.replies.specs.declared.Refusal.{Refusal}
 use Rattle.replies.specs.Refusal.{first_of, settle}
-use Rattle.replies.specs.Reply.{number_of}
 use Rattle.replies.proofs.Refusals.{settle-yes}
-use Rattle.replies.proofs.Answers.{number-not-zero, kept}
+use Rattle.replies.proofs.Answers.{number-not-zero}
 use Rattle.replies.proofs.Distinct.{numbers_apart}
-use Rattle.image.specs.declared.EncodeAnswer.{EncodeAnswer}
-use Rattle.image.specs.declared.EncodeAnswer.TheVariants as encode
+use Rattle.std.specs.Prelude.{Result, Ok, Err}
 use Rattle.image.specs.Layout.{head_words, part_words, part_at, image_length, server_image, counter_image, image_of}
 use Rattle.image.specs.Encoding.{EncodeReply, encode_rows, reply_of_encode, encode_reply, encode_words}
 use Rattle.image.proofs.Images.{length-image}
@@ -60,6 +62,17 @@ stored-image t l w₂ w₃ {a} {b} e f g h =
     let image : (head ++ servers) ++ counters ≡ image_of t = rw (append_assoc head servers counters, e, f) in
     h ∙ all ∙ ap (sets l 0) image
 
+-- the numbers of a sound table fit beside a tag
+pub head_small : (t : Table) → sound t ≡ true → (t.capacity < content_range) × (t.salt < content_range) × (in_bounds t.counters ≡ true)
+head_small t e = let s = sound-facts t e in (omega (arith, s.high), s.salted, s.bounds)
+
+pub server_small : (t : Table) (k : ℕ) (read : Fraction) → sound t ≡ true → k < t.count → read ≡ read_p t k
+    → (weight_of t k < content_range) × (used_of t k < content_range) × (read.num < content_range) × (read.den < content_range)
+server_small t k read e l r =
+    let s = sound-facts t e in
+    let o = s.server k l in
+    rw r (omega (arith, o.light, s.high), omega (arith, o.fits, s.high), omega (arith, o.proper, o.small), omega (arith, o.small))
+
 -- what the rows say
 module _ (t : Table) (d : List ℕ) where
   pub rows-unsound : sound t ≡ false → 1 ≡ first_of (encode_rows t d)
@@ -74,11 +87,6 @@ module _ (t : Table) (d : List ℕ) where
   unfolding encode_rows first_of
   rows-passed e l = rw (e, le-ltb _ _ l)
 
-  -- refused, and done
-  pub encode-refused : (r : Refusal) → number_of r ≡ first_of (encode_rows t d) → (reply_of_encode (encode.Refused r) ≡ encode_reply t d) × (d ≡ encode_words t d)
-  unfolding reply_of_encode encode_reply encode_words
-  encode-refused r e = (ap (λ (n : ℕ). record { refusal = n; words = 0 }) e ∙ kept (encode_rows t d) r e _ _, kept (encode_rows t d) r e _ d)
-
   -- the number that is answered is that of the rows
   pub encode-number : (encode_reply t d).refusal ≡ first_of (encode_rows t d)
   unfolding encode_reply settle
@@ -90,19 +98,16 @@ module _ (t : Table) (d : List ℕ) where
   unfolding encode_reply encode_words
   encode-settled ok l = let z = rows-passed ok l in (settle-yes (encode_rows t d) _ _ z, settle-yes (encode_rows t d) _ d z)
 
-  pub encode-done : (n : ℕ) (d' : List ℕ) → sound t ≡ true → image_length t.count ≤ length d → n ≡ image_length t.count → d' ≡ sets d 0 (image_of t)
-      → (reply_of_encode (encode.Encoded n) ≡ encode_reply t d) × (d' ≡ encode_words t d)
-  unfolding reply_of_encode
-  encode-done n d' ok l e f =
-      let settled = encode-settled ok l in
-      let long : 0 + length (image_of t) ≡ image_length t.count = omega (arith, length-image t) in
-      let whole : sets d 0 (image_of t) ≡ image_of t ++ drop (image_length t.count) d = sets-eq (image_of t) d 0 (omega arith) ∙ rw long in
-      (ap (λ (n : ℕ). record { refusal = 0; words = n }) e ∙ sym settled.0, f ∙ whole ∙ sym settled.1)
+-- the image in front of a destination that has room for it
+pub image_in_front : (t : Table) (d : List ℕ) → image_length t.count ≤ length d → sets d 0 (image_of t) ≡ image_of t ++ drop (image_length t.count) d
+image_in_front t d l =
+    let long : 0 + length (image_of t) ≡ image_length t.count = omega (arith, length-image t) in
+    sets-eq (image_of t) d 0 (omega arith) ∙ rw long
 
 -- two different answers never have the same reply
-pub encodes-apart : (a b : EncodeAnswer) → reply_of_encode a ≡ reply_of_encode b → a ≡ b
+pub encodes-apart : (a b : Result ℕ Refusal) → reply_of_encode a ≡ reply_of_encode b → a ≡ b
 unfolding reply_of_encode
-encodes-apart (encode.Encoded n) (encode.Encoded o) e = ap encode.Encoded (ap (λ (r : EncodeReply). r.words) e)
-encodes-apart (encode.Encoded n) (encode.Refused r) e = absurd (number-not-zero r (sym (ap (λ (r : EncodeReply). r.refusal) e)))
-encodes-apart (encode.Refused r) (encode.Encoded n) e = absurd (number-not-zero r (ap (λ (r : EncodeReply). r.refusal) e))
-encodes-apart (encode.Refused r) (encode.Refused s) e = ap encode.Refused (numbers_apart r s (ap (λ (r : EncodeReply). r.refusal) e))
+encodes-apart (Ok n) (Ok o) e = ap (λ (k : ℕ). Ok k) (ap (λ (r : EncodeReply). r.words) e)
+encodes-apart (Ok n) (Err r) e = absurd (number-not-zero r (sym (ap (λ (r : EncodeReply). r.refusal) e)))
+encodes-apart (Err r) (Ok n) e = absurd (number-not-zero r (ap (λ (r : EncodeReply). r.refusal) e))
+encodes-apart (Err r) (Err s) e = ap (λ (x : Refusal). Err x) (numbers_apart r s (ap (λ (r : EncodeReply). r.refusal) e))

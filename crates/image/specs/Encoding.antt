@@ -1,11 +1,10 @@
 -- Encode writes the image of a table to lent words: its refusals, its reply, and the words afterwards.
-use Rattle.std.specs.Prelude.{ℕ, not, List, [], ◌∷◌, ◌++◌, length, drop, ltb}
+use Rattle.std.specs.Prelude.{ℕ, not, Result, Ok, Err, List, [], ◌∷◌, ◌++◌, length, drop, ltb}
 use Rattle.table.specs.declared.Table.{Table}
 use Rattle.table.specs.Sound.{sound}
+use Rattle.replies.specs.declared.Refusal.{Refusal}
 use Rattle.replies.specs.Refusal.{Row, ◌when◌, first_of, settle}
 use Rattle.replies.specs.Reply.{number_of}
-use Rattle.image.specs.declared.EncodeAnswer.{EncodeAnswer}
-use Rattle.image.specs.declared.EncodeAnswer.TheVariants as encode
 use Rattle.image.specs.Layout.{image_length, image_of}
 
 -- the table is not sound; the destination has fewer words than the image
@@ -20,9 +19,9 @@ pub record EncodeReply : Type 0 where
   pub refusal : ℕ
   pub words : ℕ
 
-unfoldable pub reply_of_encode : EncodeAnswer → EncodeReply
-reply_of_encode (encode.Encoded n) = record { refusal = 0; words = n }
-reply_of_encode (encode.Refused r) = record { refusal = number_of r; words = 0 }
+unfoldable pub reply_of_encode : Result ℕ Refusal → EncodeReply
+reply_of_encode (Ok n) = record { refusal = 0; words = n }
+reply_of_encode (Err r) = record { refusal = number_of r; words = 0 }
 
 unfoldable pub encode_reply : Table → List ℕ → EncodeReply
 encode_reply t destination =

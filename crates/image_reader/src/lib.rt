@@ -1,52 +1,23 @@
 // Decode: a table, read from words that are all of an image.
 #![tactic(auto)]
 
-ghost use Rattle.std.specs.Prelude.{◌≡◌, ◌<◌, ◌≤◌, ◌+◌, length, set};
+ghost use Rattle.std.specs.Prelude.{◌≡◌, ◌<◌, ◌≤◌, ◌+◌, cond, eqb, length, Some, None};
+ghost use Rattle.std.specs.Result.{result_unwrap_or};
 ghost use Rattle.limits.specs.Limits.{max_servers, tenants};
 ghost use Rattle.lists.specs.Below.{all_below};
-ghost use Rattle.replies.specs.Reply.{reply_of_check, refused};
+ghost use Rattle.words.specs.Word.{tag_of, content_of};
+ghost use Rattle.replies.specs.Reply.{reply_of_check};
 ghost use Rattle.table.specs.Parts.{empty};
-ghost use Rattle.image.specs.Layout.{weight_place, used_place, numerator_place, denominator_place, part_at, image_length};
-ghost use Rattle.image.specs.Decoding.{content_at, count_in, column_in, counters_in, table_in, server_tagged, counter_tagged, each_tagged, decode_reply, decode_table};
+ghost use Rattle.image.specs.Layout.{part_words, part_at, image_length};
+ghost use Rattle.image.specs.Decoding.{tag_at, count_in, column_in, counters_in, table_in, counter_tagged, each_tagged, decode_reply, decode_table};
 
 use image_writer::{
     CAPACITY_PLACE, DENOMINATOR_PLACE, HEAD_WORDS, LEAST_WORDS, NUMERATOR_PLACE, PART_WORDS,
     SALT_PLACE, USED_PLACE, WEIGHT_PLACE, image_length,
 };
 use limits::{Column, Counters, MAX_SERVERS, TENANTS};
-use replies::{Check, Refusal};
-use table::{Columns, Shape, Table};
-
-// The answer of decode and its table. An enum holds no array, so the table stands beside the answer.
-#[derive(Clone, Copy)]
-pub struct Decoded {
-    pub answer: Check,
-    pub table: Table,
-}
-
-// The columns of the servers that were read, and whether each of their words has its tag.
-#[derive(Clone, Copy)]
-struct ServersRead {
-    tagged: bool,
-    weights: Column,
-    used: Column,
-    numerators: Column,
-    denominators: Column,
-}
-
-// The counters that were read, and whether each of their words has its tag.
-#[derive(Clone, Copy)]
-struct CountersRead {
-    tagged: bool,
-    counters: Counters,
-}
-
-// The table that was read, and whether each word has its tag.
-#[derive(Clone, Copy)]
-struct TableRead {
-    tagged: bool,
-    table: Table,
-}
+use replies::Refusal;
+use table::Table;
 
 // How many servers so many words have room for.
 fn count_in(length: usize) -> usize
@@ -58,172 +29,81 @@ fn count_in(length: usize) -> usize
     (length - LEAST_WORDS) / PART_WORDS
 }
 
-// Reads the words of a server into its columns, and answers whether each has its tag.
-fn read_server(
-    image: &[u32],
-    server: usize,
-    weights: &mut Column,
-    used: &mut Column,
-    numerators: &mut Column,
-    denominators: &mut Column,
-) -> bool
-    requires { (server < max_servers) × (part_at (server + 1) ≤ length image.now) }
-    ensures tags { result ≡ server_tagged image.now server }
-    ensures weights { weights.new ≡ set weights.old server (content_at image.now (part_at server + weight_place)) }
-    ensures used { used.new ≡ set used.old server (content_at image.now (part_at server + used_place)) }
-    ensures numerators { numerators.new
-        ≡ set numerators.old server (content_at image.now (part_at server + numerator_place)) }
-    ensures denominators { denominators.new
-        ≡ set denominators.old server (content_at image.now (part_at server + denominator_place)) }
+// The content of a word, if it has this tag.
+fn content(word: u32, tag: u32) -> Option<u32>
+    ensures { result ≡ cond (eqb (tag_of word) tag) (Some (content_of word)) None }
 {
-    let at = HEAD_WORDS + PART_WORDS * server;
-    let weight = image[at + WEIGHT_PLACE];
-    let entries = image[at + USED_PLACE];
-    let num = image[at + NUMERATOR_PLACE];
-    let den = image[at + DENOMINATOR_PLACE];
-    weights[server] = words::content_of(weight);
-    used[server] = words::content_of(entries);
-    numerators[server] = words::content_of(num);
-    denominators[server] = words::content_of(den);
-    (words::tag_of(weight) == 1)
-        & ((words::tag_of(entries) == 2) & ((words::tag_of(num) == 0) & (words::tag_of(den) == 1)))
+    if words::tag_of(word) != tag {
+        return None;
+    }
+    Some(words::content_of(word))
 }
 
-// Reads the words of so many servers.
-fn read_servers(image: &[u32], count: usize) -> ServersRead
-    requires { (count ≤ max_servers) × (part_at count ≤ length image.now) }
-    ensures { result ≡ record {
-      tagged = all_below (server_tagged image.now) count;
-      weights = column_in image.now weight_place count;
-      used = column_in image.now used_place count;
-      numerators = column_in image.now numerator_place count;
-      denominators = column_in image.now denominator_place count;
-    } }
+// What stands at a place of each of so many servers, if each word there has this tag; a server above them has 0.
+fn read_column(image: &[u32], count: usize, place: usize, tag: u32) -> Option<Column>
+    requires { (count ≤ max_servers) × (place < part_words) × (part_at count ≤ length image.now) }
+    ensures { result
+        ≡ cond (all_below (λ k. eqb (tag_at image.now (part_at k + place)) tag) count) (Some (column_in image.now place count)) None }
 {
-    let mut tagged = true;
-    let mut weights: Column = [0; MAX_SERVERS];
-    let mut used: Column = [0; MAX_SERVERS];
-    let mut numerators: Column = [0; MAX_SERVERS];
-    let mut denominators: Column = [0; MAX_SERVERS];
-    let mut k: usize = 0;
-    while k < count {
-        let fits = read_server(
-            image,
-            k,
-            &mut weights,
-            &mut used,
-            &mut numerators,
-            &mut denominators,
-        );
-        tagged = fits & tagged;
-        k += 1;
+    let mut column: Column = [0; MAX_SERVERS];
+    for k in 0..count {
+        let word = image[HEAD_WORDS + PART_WORDS * k + place];
+        column[k] = content(word, tag)?;
     }
-    ServersRead {
-        tagged,
-        weights,
-        used,
-        numerators,
-        denominators,
-    }
+    Some(column)
 }
 
-// Reads the words of the counters, which begin at a word.
-fn read_counters(image: &[u32], from: usize) -> CountersRead
+// The counters, whose words begin at a word, if each has its tag. One function of this and `read_column` would be no plainer: it
+// would take the first place, the step between places, the count, the size and the tag.
+fn read_counters(image: &[u32], from: usize) -> Option<Counters>
     requires { from + tenants ≤ length image.now }
-    ensures { result ≡ record {
-      tagged = all_below (counter_tagged image.now from) tenants;
-      counters = counters_in image.now from;
-    } }
+    ensures { result
+        ≡ cond (all_below (counter_tagged image.now from) tenants) (Some (counters_in image.now from)) None }
 {
-    let mut tagged = true;
     let mut counters: Counters = [0; TENANTS];
-    let mut i: usize = 0;
-    while i < TENANTS {
+    for i in 0..TENANTS {
         let word = image[from + i];
-        counters[i] = words::content_of(word);
-        tagged = (words::tag_of(word) == 2) & tagged;
-        i += 1;
+        counters[i] = content(word, 2)?;
     }
-    CountersRead { tagged, counters }
+    Some(counters)
 }
 
-// Reads a table of so many servers.
-fn read_table(image: &[u32], count: usize) -> TableRead
+// A table of so many servers, if each word has its tag.
+fn read_table(image: &[u32], count: usize) -> Option<Table>
     requires { (count ≤ max_servers) × (length image.now ≡ image_length count) }
-    ensures { result ≡ record { tagged = each_tagged image.now count; table = table_in image.now } }
+    ensures { result ≡ cond (each_tagged image.now count) (Some (table_in image.now)) None }
 {
-    let capacity = image[CAPACITY_PLACE];
-    let salt = image[SALT_PLACE];
-    let head = (words::tag_of(capacity) == 0) & (words::tag_of(salt) == 1);
-    let servers = read_servers(image, count);
-    let last = read_counters(image, HEAD_WORDS + PART_WORDS * count);
-    let weights = servers.weights;
-    let used = servers.used;
-    let numerators = servers.numerators;
-    let denominators = servers.denominators;
-    let counters = last.counters;
-    let table = Table {
-        capacity: words::content_of(capacity),
-        salt: words::content_of(salt),
+    Some(Table {
+        capacity: content(image[CAPACITY_PLACE], 0)?,
+        salt: content(image[SALT_PLACE], 1)?,
         count,
-        weights,
-        used,
-        numerators,
-        denominators,
-        counters,
-    };
-    TableRead {
-        tagged: head & (servers.tagged & last.tagged),
-        table,
-    }
+        weights: read_column(image, count, WEIGHT_PLACE, 1)?,
+        used: read_column(image, count, USED_PLACE, 2)?,
+        numerators: read_column(image, count, NUMERATOR_PLACE, 0)?,
+        denominators: read_column(image, count, DENOMINATOR_PLACE, 1)?,
+        counters: read_counters(image, HEAD_WORDS + PART_WORDS * count)?,
+    })
 }
 
-// What words get that are no image.
-fn bad_image() -> Decoded
-    ensures reply { reply_of_check result.answer ≡ refused 12 0 }
-    ensures table { result.table ≡ empty 0 0 }
-{
-    let table = table::empty(0, 0);
-    Decoded {
-        answer: Check::Refused(Refusal::BadImage),
-        table,
-    }
-}
-
-// Reads a table from its image, or refuses words that are the image of no sound table.
-pub fn decode(image: &[u32]) -> Decoded
-    ensures reply { reply_of_check result.answer ≡ decode_reply image.now }
-    ensures table { result.table ≡ decode_table image.now }
+// Reads a table from its image, or refuses words that are the image of no sound table. The table of all zeros stands for what is
+// refused.
+#[tactic(auto, using(image::proofs::Reading::too_many, image::proofs::Reading::not_long, image::proofs::Reading::not_tagged, image::proofs::Reading::not_sound, image::proofs::Reading::all_taken, crate::proofs::Tagged::none_if), unfolding(image::specs::Decoding::decode_reply, image::specs::Decoding::decode_table, image::specs::Decoding::decode_rows, replies::specs::Reply::reply_by, replies::specs::Reply::reply_of_check, replies::specs::Reply::number_of, replies::specs::Refusal::settle, replies::specs::Refusal::first_of))]
+pub fn decode(image: &[u32]) -> Result<Table, Refusal>
+    ensures reply { reply_of_check result ≡ decode_reply image.now }
+    ensures table { result_unwrap_or result (empty 0 0) ≡ decode_table image.now }
 {
     let count = count_in(image.len());
     if count > MAX_SERVERS {
-        return bad_image();
+        return Err(Refusal::BadImage);
     }
     if image.len() != image_length(count) {
-        return bad_image();
+        return Err(Refusal::BadImage);
     }
-    let read = read_table(image, count);
-    if !read.tagged {
-        return bad_image();
-    }
-    let table = read.table;
-    let shape = Shape {
-        capacity: table.capacity,
-        salt: table.salt,
-        count: table.count,
+    let Some(table) = read_table(image, count) else {
+        return Err(Refusal::BadImage);
     };
-    let columns: Columns = [
-        &table.weights,
-        &table.used,
-        &table.numerators,
-        &table.denominators,
-        &table.counters,
-    ];
-    if !table::is_sound(shape, columns) {
-        return bad_image();
+    if !table.view().is_sound() {
+        return Err(Refusal::BadImage);
     }
-    Decoded {
-        answer: Check::Accepted,
-        table,
-    }
+    Ok(table)
 }

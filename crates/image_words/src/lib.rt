@@ -5,11 +5,10 @@ ghost use Rattle.std.specs.Prelude.{◌≡◌};
 ghost use Rattle.image_words.specs.ImageWords.{after_encode, decode_number, after_decode};
 
 use encoding::TOO_SHORT;
-use image::EncodeAnswer;
-use replies::Check;
 use table_words::TABLE_LENGTH;
 
 // Writes the image of a table, and how many words it has.
+#[tactic(auto, unfolding(crate::specs::ImageWords::after_encode, crate::specs::ImageWords::fits_encode, crate::specs::ImageWords::with_size, image::specs::Encoding::reply_of_encode))]
 pub fn encode(table: &[u32], destination: &mut [u32], size: &mut [u32]) -> u32
     ensures number { result ≡ (after_encode table.now destination.old size.old).number }
     ensures destination { destination.new
@@ -22,19 +21,17 @@ pub fn encode(table: &[u32], destination: &mut [u32], size: &mut [u32]) -> u32
     if size.len() < 1 {
         return TOO_SHORT;
     }
-    let shape = table_words::shape_of(table);
-    let columns = table_words::columns_of(table);
-    let answer = image_writer::encode_in(shape, columns, destination);
-    match answer {
-        EncodeAnswer::Refused(refusal) => replies::check_number(Check::Refused(refusal)),
-        EncodeAnswer::Encoded(n) => {
+    match image_writer::encode_in(&table_words::view_of(table), destination) {
+        Err(refusal) => refusal.number(),
+        Ok(n) => {
             size[0] = n as u32;
             0
         }
     }
 }
 
-// Reads a table from its image, and stores it.
+// Reads a table from its image, and stores it; where the words are refused, one of all zeros.
+#[tactic(auto, unfolding(crate::specs::ImageWords::decode_number, crate::specs::ImageWords::after_decode, table_words::specs::Words::with_table))]
 pub fn decode(image: &[u32], table: &mut [u32]) -> u32
     ensures number { result ≡ decode_number image.now table.old }
     ensures table { table.new ≡ after_decode image.now table.old }
@@ -43,7 +40,6 @@ pub fn decode(image: &[u32], table: &mut [u32]) -> u32
         return TOO_SHORT;
     }
     let decoded = image_reader::decode(image);
-    let answer = decoded.answer;
-    table_words::store_table(table, decoded.table);
-    replies::check_number(answer)
+    table_words::store_table(table, decoded.unwrap_or(table::empty(0, 0)));
+    replies::check_reply(&decoded).refusal
 }

@@ -6,16 +6,15 @@ ghost use Rattle.std.proofs.lemmas.List.Edits.{sets};
 ghost use Rattle.limits.specs.Limits.{max_servers, content_range, tenants};
 ghost use Rattle.lists.specs.Below.{nth, join_below};
 ghost use Rattle.counters.specs.Counter.{in_bounds};
-ghost use Rattle.table.specs.Parts.{table_of, Whole};
+ghost use Rattle.table.specs.Parts.{table_of};
 ghost use Rattle.table.specs.Sound.{sound};
 ghost use Rattle.image.specs.Layout.{head_words, part_words, part_at, image_length, server_words, counter_word, server_image, image_of};
 ghost use Rattle.image.specs.Encoding.{reply_of_encode, encode_reply, encode_words};
 
-use image::EncodeAnswer;
-use limits::TENANTS;
+use limits::{Counters, TENANTS};
 use placement::Fraction;
 use replies::Refusal;
-use table::{Columns, Shape, Table};
+use table::{Table, View};
 
 // Where capacity and salt stand, and how many words are before the servers'.
 pub const CAPACITY_PLACE: usize = 0;
@@ -59,100 +58,74 @@ fn store_server(destination: &mut [u32], at: usize, weight: u32, used: u32, read
 }
 
 // Stores the words of the servers of a sound table.
-fn store_servers<'a>(shape: Shape, columns: Columns<'a>, destination: &mut [u32])
-    requires whole { Whole columns }
-    requires columns_value { sound (table_of shape columns) ≡ true }
-    requires count_in_bounds { part_at shape.count ≤ length destination.old }
+#[tactic(auto, using(table::proofs::Soundness::sound_bounds), unfolding(lists::specs::Below::join_below))]
+fn store_servers(table: &View<'_>, destination: &mut [u32])
+    requires table_value { sound (table_of table.now) ≡ true }
+    requires count_in_bounds { part_at table.now.shape.count ≤ length destination.old }
     ensures { destination.new
-        ≡ sets destination.old head_words (join_below (server_image (table_of shape columns.entry)) shape.count) }
+        ≡ sets destination.old head_words (join_below (server_image (table_of table.now)) table.now.shape.count) }
 {
-    let count = shape.count;
-    let weights = columns[0];
-    let used = columns[1];
-    let numerators = columns[2];
-    let denominators = columns[3];
-    let mut k: usize = 0;
-    while k < count {
-        let read = Fraction {
-            num: numerators[k],
-            den: denominators[k],
-        };
+    for k in 0..table.shape.count {
         store_server(
             destination,
             HEAD_WORDS + PART_WORDS * k,
-            weights[k],
-            used[k],
-            read,
+            table.weights[k],
+            table.used[k],
+            table.read_p(k),
         );
-        k += 1;
     }
 }
 
 // Stores the words of the counters, from a word on.
-fn store_counters(destination: &mut [u32], from: usize, counters: &[u32])
-    requires counters_len { length counters.now ≡ tenants }
+#[tactic(auto, unfolding(lists::specs::Below::join_below))]
+fn store_counters(destination: &mut [u32], from: usize, counters: &Counters)
     requires counters_value { in_bounds counters.now ≡ true }
     requires tenants_in_bounds { from + tenants ≤ length destination.old }
     ensures { destination.new
         ≡ sets destination.old from (join_below (λ i. counter_word (nth counters.now i)) tenants) }
 {
-    let mut i: usize = 0;
-    while i < counters.len() {
-        destination[from + i] = words::tagged(2, counters[i]);
-        i += 1;
+    for (i, counter) in counters.iter().enumerate() {
+        destination[from + i] = words::tagged(2, *counter);
     }
 }
 
 // Stores the image of a sound table.
-fn store_image<'a>(shape: Shape, columns: Columns<'a>, destination: &mut [u32])
-    requires whole { Whole columns }
-    requires columns_value { sound (table_of shape columns) ≡ true }
-    requires count_in_bounds { image_length shape.count ≤ length destination.old }
-    ensures { destination.new ≡ sets destination.old 0 (image_of (table_of shape columns.entry)) }
+fn store_image(table: &View<'_>, destination: &mut [u32])
+    requires table_value { sound (table_of table.now) ≡ true }
+    requires count_in_bounds { image_length table.now.shape.count ≤ length destination.old }
+    ensures { destination.new ≡ sets destination.old 0 (image_of (table_of table.now)) }
 {
-    destination[CAPACITY_PLACE] = words::tagged(0, shape.capacity);
-    destination[SALT_PLACE] = words::tagged(1, shape.salt);
-    store_servers(shape, columns, destination);
+    destination[CAPACITY_PLACE] = words::tagged(0, table.shape.capacity);
+    destination[SALT_PLACE] = words::tagged(1, table.shape.salt);
+    store_servers(table, destination);
     store_counters(
         destination,
-        HEAD_WORDS + PART_WORDS * shape.count,
-        columns[4],
+        HEAD_WORDS + PART_WORDS * table.shape.count,
+        table.counters,
     );
 }
 
-// Writes the image of a table whose columns are borrowed.
-pub fn encode_in<'a>(shape: Shape, columns: Columns<'a>, destination: &mut [u32]) -> EncodeAnswer
-    requires { Whole columns }
-    ensures reply { reply_of_encode result ≡ encode_reply (table_of shape columns.entry) destination.old }
-    ensures words { destination.new ≡ encode_words (table_of shape columns.entry) destination.old }
+// Writes the image of a table that is lent.
+#[tactic(auto, using(table::proofs::Soundness::sound_bounds, image::proofs::Writing::image_in_front), unfolding(image::specs::Encoding::reply_of_encode, image::specs::Encoding::encode_reply, image::specs::Encoding::encode_words, image::specs::Encoding::encode_rows, replies::specs::Refusal::settle, replies::specs::Refusal::first_of, replies::specs::Reply::number_of))]
+pub fn encode_in(table: &View<'_>, destination: &mut [u32]) -> Result<usize, Refusal>
+    ensures reply { reply_of_encode result ≡ encode_reply (table_of table.now) destination.old }
+    ensures words { destination.new ≡ encode_words (table_of table.now) destination.old }
 {
-    if !table::is_sound(shape, columns) {
-        return EncodeAnswer::Refused(Refusal::UnsoundTable);
+    if !table.is_sound() {
+        return Err(Refusal::UnsoundTable);
     }
-    let length = image_length(shape.count);
+    let length = image_length(table.shape.count);
     if destination.len() < length {
-        return EncodeAnswer::Refused(Refusal::ShortDestination);
+        return Err(Refusal::ShortDestination);
     }
-    store_image(shape, columns, destination);
-    EncodeAnswer::Encoded(length)
+    store_image(table, destination);
+    Ok(length)
 }
 
 // Writes the image of a table to the front of the destination.
-pub fn encode(table: Table, destination: &mut [u32]) -> EncodeAnswer
-    ensures reply { reply_of_encode result ≡ encode_reply table destination.old }
-    ensures words { destination.new ≡ encode_words table destination.old }
+pub fn encode(table: &Table, destination: &mut [u32]) -> Result<usize, Refusal>
+    ensures reply { reply_of_encode result ≡ encode_reply table.now destination.old }
+    ensures words { destination.new ≡ encode_words table.now destination.old }
 {
-    let shape = Shape {
-        capacity: table.capacity,
-        salt: table.salt,
-        count: table.count,
-    };
-    let columns: Columns = [
-        &table.weights,
-        &table.used,
-        &table.numerators,
-        &table.denominators,
-        &table.counters,
-    ];
-    encode_in(shape, columns, destination)
+    encode_in(&table.view(), destination)
 }

@@ -1,45 +1,14 @@
-// Recover on a table lent as words. Its columns are parts of the words, and the column of the entries used alone is stored.
+// Recover on a table lent as words: it is read out of them, recovered by value and stored again.
 #![tactic(auto)]
 
-ghost use Rattle.std.specs.Prelude.{◌≡◌, true, ◌≤◌, length};
-ghost use Rattle.medium.specs.Entry.{server_at};
-ghost use Rattle.table.specs.Sound.{sound};
-ghost use Rattle.table_words.specs.Words.{table_length, table_from, with_table};
-ghost use Rattle.replies.specs.Refusal.{first_of};
-ghost use Rattle.replies.specs.Reply.{check_number};
-ghost use Rattle.recovery.specs.Recovery.{used_on, with_used, recover_rows};
+ghost use Rattle.std.specs.Prelude.{◌≡◌};
 ghost use Rattle.recover_words.specs.RecoverWords.{recover_number, after_recover};
 
 use encoding::TOO_SHORT;
-use replies::Check;
-use table_words::{NUMERATORS_OFFSET, TABLE_LENGTH, USED_OFFSET};
-
-// The tests of recover.
-fn tested(words: &[u32], medium: &[u32]) -> Check
-    requires { table_length ≤ length words.now }
-    ensures { check_number result ≡ first_of (recover_rows (table_from words.now) medium.now) }
-{
-    let shape = table_words::shape_of(words);
-    let columns = table_words::columns_of(words);
-    recovery::check(shape, columns, medium)
-}
-
-// Stores the used of every server by the medium.
-fn recount(words: &mut [u32], medium: &[u32])
-    requires table_length_in_bounds { table_length ≤ length words.old }
-    requires words_value { sound (table_from words.old) ≡ true }
-    requires words_in_bounds { server_at (table_from words.old).capacity (table_from words.old).count ≤ length medium.now }
-    ensures { words.new
-        ≡ with_table words.old (with_used (table_from words.old) (used_on (table_from words.old).capacity medium.now)) }
-{
-    let shape = table_words::shape_of(words);
-    let capacity = shape.capacity as usize;
-    let count = shape.count;
-    let used = &mut words[USED_OFFSET..NUMERATORS_OFFSET];
-    recovery::recount(medium, capacity, count, used);
-}
+use table_words::TABLE_LENGTH;
 
 // Sets the used of every server from the medium, which is only read, and answers the refusal number.
+#[tactic(auto, unfolding(crate::specs::RecoverWords::recover_number, crate::specs::RecoverWords::after_recover, table_words::specs::Words::with_table))]
 pub fn recover(table: &mut [u32], medium: &[u32]) -> u32
     ensures number { result ≡ recover_number table.old medium.now }
     ensures table { table.new ≡ after_recover table.old medium.now }
@@ -47,10 +16,8 @@ pub fn recover(table: &mut [u32], medium: &[u32]) -> u32
     if table.len() < TABLE_LENGTH {
         return TOO_SHORT;
     }
-    let number = replies::check_number(tested(table, medium));
-    if number != 0 {
-        return number;
-    }
-    recount(table, medium);
-    0
+    let mut next = table_words::view_of(table).to_table();
+    let recovered = recovery::recover(&mut next, medium);
+    table_words::store_table(table, next);
+    replies::check_reply(&recovered).refusal
 }

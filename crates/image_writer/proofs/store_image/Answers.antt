@@ -1,28 +1,18 @@
 -- `image_writer::store_image` meets its contract: two words, the servers and the counters.
-use mathlib.Core.Path.{◌≡◌, ◌∙◌}
-use native.Mathlib.Omega.{arith}
-use lib.ListN.{length, length-set}
 use borrow.Author.Rules.{rules}
 use Rattle.table.specs.Parts.{table_of}
-use Rattle.table.proofs.Soundness.{Sound, sound-facts}
-use Rattle.image.proofs.Writing.{stored-image}
+use Rattle.image.proofs.Writing.{head_small, stored-image}
 use Rattle.image_writer.proofs.store_image.Goals as goal
 
 pub tagged-requires : goal.tagged-requires
-tagged-requires c =
-    let ok : Sound (table_of c.args.shape c.args.columns) = sound-facts _ c.requires.columns_value in
-    let s = ok in (search rules, omega (arith, s.high))
+tagged-requires c = (search rules, (head_small (table_of c.args.table.now) c.requires.table_value).0)
 
 pub tagged-requires-2 : goal.tagged-requires-2
-tagged-requires-2 c =
-    let ok : Sound (table_of c.args.shape c.args.columns) = sound-facts _ c.requires.columns_value in
-    let s = ok in (search rules, omega (arith, s.salted))
+tagged-requires-2 c = (search rules, (head_small (table_of c.args.table.now) c.requires.table_value).1)
 
 pub store_counters-requires-clause-counters_value : goal.store_counters-requires-clause-counters_value
-store_counters-requires-clause-counters_value c =
-    let ok : Sound (table_of c.args.shape c.args.columns) = sound-facts _ c.requires.columns_value in
-    ok.bounds
+store_counters-requires-clause-counters_value c = (head_small (table_of c.args.table.now) c.requires.table_value).2
 
 pub returns : goal.returns
 returns c =
-    stored-image (table_of c.args.shape c.args.columns) c.args.destination.now _ _ c.tagged.ensures c.tagged-2.ensures c.store_servers.ensures c.store_counters.ensures
+    stored-image (table_of c.args.table.now) c.args.destination.now _ _ c.tagged.ensures c.tagged-2.ensures c.store_servers.ensures c.store_counters.ensures
