@@ -20,19 +20,14 @@ use table_words::TABLE_LENGTH;
 const ACCEPTED: u32 = 0;
 
 // Whether the runs are long enough for a batch of `n` ids.
+#[tactic(auto, unfolding(crate::specs::BatchWords::fits_batch))]
 fn fits(table: &[u32], n: usize, replies: &[u32], order: &[u32], mounts: &[u32]) -> bool
     ensures { result ≡ fits_batch n table.now replies.now order.now mounts.now }
 {
-    if table.len() < TABLE_LENGTH {
-        return false;
-    }
-    if replies.len() / REPLY_LENGTH < n {
-        return false;
-    }
-    if order.len() < n {
-        return false;
-    }
-    1 <= mounts.len()
+    TABLE_LENGTH <= table.len()
+        && n <= replies.len() / REPLY_LENGTH
+        && n <= order.len()
+        && 1 <= mounts.len()
 }
 
 // Stores the reply to each of the first `n` ids.
@@ -64,15 +59,13 @@ fn store_front(array: &[u32; MAX_IDS], n: usize, words: &mut [u32])
     words[..n].copy_from_slice(&array[..n]);
 }
 
-// Looks many ids up together for a tenant, on the parts of the words that are the table's columns. The caller counts the servers
-// that were opened.
+// Looks many ids up together for a tenant on the table where it lies. The caller counts the servers that were opened.
 fn look_up(words: &[u32], medium: &[u32], tenant: u32, ids: &[u32]) -> Batch
     requires { table_length ≤ length words.now }
-    ensures { result ≡ batch_reply (table_from words.now) medium.now tenant ids.now }
+    ensures reply { result ≡ batch_reply (table_from words.now) medium.now tenant ids.now }
+    ensures count { (table_from words.now).count < 4294967296 }
 {
-    let shape = table_words::shape_of(words);
-    let columns = table_words::columns_of(words);
-    batch::lookup_batch_in(shape, columns, medium, tenant, ids)
+    batch::lookup_batch_in(&table_words::view_of(words), medium, tenant, ids)
 }
 
 // Looks many ids up together for a tenant, stores each id's reply, the order of finding and the number of servers opened, and

@@ -36,6 +36,7 @@ pub extern "C" fn archive_table_words() -> usize
 }
 
 // Stores a table of no server, or of all zeros where the capacity or the salt is refused.
+#[tactic(auto, unfolding(crate::specs::Embed::start_number, table_words::specs::Words::with_table))]
 #[unsafe(no_mangle)]
 pub extern "C" fn archive_start(capacity: u32, salt: u32, table: &mut [u32]) -> u32
     ensures number { result ≡ start_number capacity salt table.old }

@@ -40,6 +40,6 @@ pub fn decode(image: &[u32], table: &mut [u32]) -> u32
         return TOO_SHORT;
     }
     let decoded = image_reader::decode(image);
-    table_words::store_table(table, decoded.unwrap_or(table::empty(0, 0)));
+    table_words::store_table(table, &decoded.unwrap_or(table::empty(0, 0)));
     replies::check_reply(&decoded).refusal
 }

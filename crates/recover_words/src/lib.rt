@@ -18,6 +18,6 @@ pub fn recover(table: &mut [u32], medium: &[u32]) -> u32
     }
     let mut next = table_words::view_of(table).to_table();
     let recovered = recovery::recover(&mut next, medium);
-    table_words::store_table(table, next);
+    table_words::store_table(table, &next);
     replies::check_reply(&recovered).refusal
 }

@@ -62,10 +62,10 @@ pub plan-refused : (rows : List Row) (r : Refusal) (k : ℕ) → number_of r ≡
 plan-refused rows r k e = (e, kept rows r e k 0)
 
 -- the number is that of the reply
-pub number-of-reply : {A : Type 0} (a : Result A Refusal) → check_number a ≡ (reply_of_check a).refusal
+pub number_of_reply : {A : Type 0} (a : Result A Refusal) → check_number a ≡ (reply_of_check a).refusal
 unfolding check_number reply_of_check
-number-of-reply (Ok _) = refl
-number-of-reply (Err r) = refl
+number_of_reply (Ok _) = refl
+number_of_reply (Err r) = refl
 
 -- the answer of start is what its test says
 pub check-reply : {A : Type 0} (rows : List Row) (a : Result A Refusal) → check_number a ≡ first_of rows → reply_of_check a ≡ reply_by rows accepted

@@ -11,7 +11,7 @@ use Rattle.table.specs.declared.Table.{Table}
 use Rattle.replies.specs.declared.Reply.{Reply}
 use Rattle.replies.specs.declared.Refusal.{Refusal}
 use Rattle.replies.specs.Reply.{check_number, reply_of_check}
-use Rattle.replies.proofs.Answers.{number-of-reply}
+use Rattle.replies.proofs.Answers.{number_of_reply}
 use Rattle.table.specs.Parts.{empty}
 use Rattle.replies.proofs.Refusals.{settle-yes, settle-no}
 use Rattle.server_rows.specs.ServerRows.{start_rows}
@@ -24,7 +24,7 @@ use Rattle.sheet_start.specs.SheetStart.{sheet_of, start_run, sheet_salt}
 -- a start, by what it answers: refused and accepted
 module _ (u : Option Table) (m : List ℕ) (capacity n : ℕ) (a : Result Table Refusal) (e : n ≡ check_number a) (f : reply_of_check a ≡ start_reply capacity sheet_salt) where
   bytes : printed start_letter (start_reply capacity sheet_salt).refusal 0 0 ≡ printed start_letter n 0 0
-  bytes = ap (λ (x : ℕ). printed start_letter x 0 0) (sym (e ∙ number-of-reply a ∙ ap (λ (y : Reply). y.refusal) f))
+  bytes = ap (λ (x : ℕ). printed start_letter x 0 0) (sym (e ∙ number_of_reply a ∙ ap (λ (y : Reply). y.refusal) f))
 
   pub start-refused : {r : Refusal} → a ≡ Err r → start_run (sheet_of u m) capacity ≡ record { bytes = printed start_letter n 0 0; sheet = sheet_of u m }
   unfolding start_run

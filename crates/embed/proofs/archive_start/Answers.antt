@@ -1,21 +1,20 @@
--- `embed::archive_start` meets its contract.
-use mathlib.Core.Path.{◌∙◌}
+-- `embed::archive_start` meets its contract: a start, or the table of zeros where it is refused.
+use mathlib.Core.Path.{◌≡◌, ap, ◌∙◌}
+use borrow.Author.Rules.{rules}
+use borrow.Author.Tests.{le-leb}
+use Rattle.replies.specs.declared.Reply.{Reply}
+use Rattle.replies.proofs.Answers.{number_of_reply}
+use Rattle.servers.specs.Servers.{start_table}
 use Rattle.servers.proofs.Starts.{start-count}
-use Rattle.embed.proofs.Starting.{start-short, start-stored}
+use Rattle.embed.specs.Embed.{start_number}
 use Rattle.embed.proofs.archive_start.Goals as goal
-
-pub returns-then-table-lt-TABLE_LENGTH-clause-number : goal.returns-then-table-lt-TABLE_LENGTH-clause-number
-returns-then-table-lt-TABLE_LENGTH-clause-number c =
-    (start-short c.args.capacity c.args.salt c.args.table.now c.if-table-lt-TABLE_LENGTH.true).0
-
-pub returns-then-table-lt-TABLE_LENGTH-clause-table : goal.returns-then-table-lt-TABLE_LENGTH-clause-table
-returns-then-table-lt-TABLE_LENGTH-clause-table c =
-    (start-short c.args.capacity c.args.salt c.args.table.now c.if-table-lt-TABLE_LENGTH.true).1
 
 pub store_table-requires-clause-count_bound : goal.store_table-requires-clause-count_bound
 store_table-requires-clause-count_bound c =
-    start-count _ _ _ c.start-begun.ensures.table
+    let started : c.unwrap_or.result ≡ start_table c.args.capacity c.args.salt = search rules in
+    start-count c.args.capacity c.args.salt c.unwrap_or.result started
 
 pub returns-clause-number : goal.returns-clause-number
+unfolding start_number
 returns-clause-number c =
-    (start-stored c.args.capacity c.args.salt c.args.table.now c.if-table-lt-TABLE_LENGTH.false _ _ _ (c.start_reply-reply.ensures ∙ c.start-begun.ensures.reply) c.start-begun.ensures.table c.store_table.ensures).0
+    c.check_number-refusal.ensures ∙ number_of_reply c.start-started.result ∙ ap (λ (r : Reply). r.refusal) c.start-started.ensures.reply ∙ rw (le-leb _ _ c.if-table-lt-TABLE_LENGTH.false)

@@ -1,6 +1,6 @@
 -- `replay::replay` meets its contract: no call after a refused start, and else as many as both slices have room for.
 use native.Mathlib.Omega.{arith}
-use Rattle.servers.proofs.Starts.{start-accepted, start-count}
+use Rattle.servers.proofs.Starts.{start-accepted, start-refused, start-count}
 use Rattle.replay.proofs.Replaying.{started-words, refused-run, all-run}
 use Rattle.replay.proofs.replay.Goals as goal
 
