@@ -1,21 +1,14 @@
 -- Out of and into the tests of an entry: that it bears an id, that it is live, that words are blank.
 -- Assumes nothing.
-use Prim.Native.Nat.{ℕ, zero, suc, ◌+◌, ◌≤◌, ◌<◌}
-use mathlib.Core.Path.{◌≡◌, refl, ◌∙◌}
+use Prim.Native.Nat.{ℕ, ◌+◌, ◌<◌}
+use mathlib.Core.Path.{◌≡◌, ◌∙◌}
 use mathlib.Core.Bool.{Bool, true, false}
 use mathlib.Core.List.{List}
-use Rattle.std.proofs.Common.{add-one}
-use native.Mathlib.Omega.{arith}
-use lib.ListN.{length, take, drop, length-drop}
 use lib.Dec.{ltb, eqb}
-use Rattle.std.specs.List.{list_all}
-use Rattle.std.proofs.Math.Bool.{and_comm}
-use Rattle.std.proofs.lemmas.List.{get_or-drop}
-use Rattle.std.proofs.lemmas.List.Folds.{list_all_more}
 use borrow.Author.Tests.{ltb-true, lt-ltb, eqb-true, eq-eqb, ne_eqb}
-use Rattle.lists.specs.Below.{nth, all_below}
+use Rattle.lists.specs.Below.{nth}
 use Rattle.lists.proofs.Tests.{and_l, and_r, and_i}
-use Rattle.lists.proofs.Below.{all_below-in, all_below-out, all_below-not}
+use Rattle.lists.proofs.Below.{all_below-more, all_below-in, all_below-out, all_below-not}
 use Rattle.medium.specs.Word.{id_word, blank}
 use Rattle.medium.specs.Entry.{entry_at, mark_at, bears_at, bears, live, blank_run}
 
@@ -62,17 +55,13 @@ pub live-cong : (capacity used : ℕ) (m m' : List ℕ) (id k j : ℕ) → SameE
 unfolding live
 live-cong capacity used m m' id k j s = rw (bears-cong capacity m m' id k j s)
 
--- the test of each word of a slice is that of the words from its first on
-pub all-run : (p : ℕ → Bool) (m : List ℕ) (from n : ℕ) → from + n ≤ length m → list_all p (take n (drop from m)) ≡ all_below (λ i. p (nth m (from + i))) n
-unfolding all_below
-all-run p m from zero l = refl
-all-run p m from (suc n) l =
-    let one = list_all_more p (drop from m) n 0 (omega (arith, length-drop from m)) in
-    rw (all-run p m from n (omega arith), get_or-drop from m n 0, and_comm) at (rw add-one at one)
-
 module _ (m : List ℕ) (from n : ℕ) where
   abbrev is_blank : ℕ → Bool
   is_blank i = eqb (nth m (from + i)) blank
+
+  pub blank_more : blank_run m from n ≡ true → nth m (from + n) ≡ blank → blank_run m from (n + 1) ≡ true
+  unfolding blank_run
+  blank_more e h = all_below-more is_blank n e (eq-eqb _ _ h)
 
   pub blank-at : blank_run m from n ≡ true → (i : ℕ) → i < n → nth m (from + i) ≡ blank
   unfolding blank_run

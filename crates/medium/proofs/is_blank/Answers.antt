@@ -1,16 +1,19 @@
--- `medium::is_blank` meets its contract: each word of the slice is one of the run.
-use Rattle.std.proofs.Common.{◌≡◌, ◌+◌, ◌-◌, eqb, ◌∙◌, arith, rules, tests}
-use Rattle.std.proofs.lemmas.Iterator.{YieldsList-from_slice}
-use Rattle.std.proofs.lemmas.Iterator.Search.{all_from_yields_List}
-use Rattle.medium.specs.Word.{blank}
+-- `medium::is_blank` meets its contract: one word that is not blank, and one more that is.
+use mathlib.Core.Path.{refl, sym}
+use borrow.Author.Rules.{rules}
+use Rattle.lists.specs.Below.{all_below}
 use Rattle.medium.specs.Entry.{blank_run}
-use Rattle.medium.proofs.Entries.{all-run}
+use Rattle.medium.proofs.Entries.{blank-not, blank_more}
 use Rattle.medium.proofs.is_blank.Goals as goal
 
-pub returns : goal.returns
-unfolding blank_run
-returns c =
+pub loop-i-init : goal.loop-i-init
+unfolding blank_run all_below
+loop-i-init c = refl
+
+pub returns-then-medium-from : goal.returns-then-medium-from
+returns-then-medium-from c =
     let a = c.args in
-    let long : a.from + a.n - a.from ≡ a.n = omega arith in
-    all_from_yields_List (λ w. eqb w blank) _ _ _ c.all.ensures.ran (YieldsList-from_slice _ (rw long at c.iter.ensures.rest)) (λ x b q k. search (rules, tests))
-    ∙ all-run (λ w. eqb w blank) a.medium.now a.from a.n (search rules)
+    sym (blank-not a.medium.now a.from a.n c.loop-i.i (search rules) c.if-medium-from.true)
+
+pub loop-i-preserved : goal.loop-i-preserved
+loop-i-preserved c = blank_more c.args.medium.now c.args.from c.loop-i.i c.loop-i.invariant c.if-medium-from.false
