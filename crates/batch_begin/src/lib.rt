@@ -8,8 +8,8 @@ ghost use Rattle.batch_begin.specs.Begin.{first_refusal, first_parts};
 use limits::MAX_IDS;
 
 // How far the lookups of all ids are: each array has one number for each id, in the order of the ids. A refusal is 8 while no entry
-// was met, and an end is one more than the last server opened for the id, or 0. An end has 16 bits so that the whole, which is copied
-// for each server, has fewer than 4,096 bytes (docs/BENCHMARKS.md, "What was found and mended").
+// was met, and an end is one more than the last server opened for the id, or 0. An end has 16 bits so that the whole has fewer than
+// 4,096 bytes (docs/BENCHMARKS.md, "What was found and mended").
 #[derive(Clone, Copy)]
 pub struct Parts {
     pub refusals: [u32; MAX_IDS],
