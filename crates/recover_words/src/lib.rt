@@ -1,4 +1,4 @@
-// Recover on a table lent as words: it is read out of them, recovered by value and stored again.
+// Recover on a table lent as words: it is read out of them, recovered and stored again.
 #![tactic(auto)]
 
 ghost use Rattle.std.specs.Prelude.{◌≡◌};
