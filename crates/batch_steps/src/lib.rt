@@ -39,7 +39,6 @@ fn step(
         ≡ stepped (read_p (table_of table.now) server) table.now.shape (used_of (table_of table.now) server) medium.now id server progress }
 {
     let shape = table.shape;
-    let used = table.used[server] as usize;
     if progress.refusal != 8 {
         return progress;
     }
@@ -48,6 +47,7 @@ fn step(
     }
     let opened = progress.opened + 1;
     let end = server as u16 + 1;
+    let used = table.used[server] as usize;
     match scan::newest(medium, shape.capacity as usize, used, id, server) {
         None => Progress {
             refusal: 8,

@@ -20,7 +20,7 @@ fn no_call() -> Reply
     ensures { result ≡ refused no_call_number 0 }
 {
     Reply {
-        refusal: 4294967295,
+        refusal: u32::MAX,
         server: 0,
         value: 0,
         opened: 0,

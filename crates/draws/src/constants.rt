@@ -1,4 +1,4 @@
-// The steps of the draw, one for each server: entry k is (k + 1) * 2654435769 % 2^32. The contract of `steps` says so of the whole
+// The steps of the draw, one for each server: entry k is (k + 1) * 2654435769 % 2^32. The field `rule` of `Steps` says so of the whole
 // table by one test (`are_steps`), so that a wrong number here is refused.
 use limits::MAX_SERVERS;
 

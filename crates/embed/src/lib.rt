@@ -45,10 +45,16 @@ pub extern "C" fn archive_start(capacity: u32, salt: u32, table: &mut [u32]) -> 
     if table.len() < table_words::TABLE_LENGTH {
         return encoding::TOO_SHORT;
     }
-    let started = servers::start(capacity, salt);
-    let refusal = replies::check_number(&started);
-    table_words::store_table(table, &started.unwrap_or(table::empty(0, 0)));
-    refusal
+    match servers::start(capacity, salt) {
+        Ok(started) => {
+            table_words::store_table(table, &started);
+            0
+        }
+        Err(refusal) => {
+            table_words::store_table(table, &table::empty(0, 0));
+            refusal.number()
+        }
+    }
 }
 
 // Runs the call at the front of its words, stores its reply and answers its refusal number.

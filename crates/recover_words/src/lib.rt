@@ -1,14 +1,30 @@
-// Recover on a table lent as words: it is read out of them, recovered and stored again.
+// Recover on a table lent as words: the column of the entries used alone is stored.
 #![tactic(auto)]
 
-ghost use Rattle.std.specs.Prelude.{◌≡◌};
+ghost use Rattle.std.specs.Prelude.{◌≡◌, true, ◌≤◌, length};
+ghost use Rattle.medium.specs.Entry.{server_at};
+ghost use Rattle.table.specs.Sound.{sound};
+ghost use Rattle.table_words.specs.Words.{table_length, table_from, with_table};
+ghost use Rattle.recovery.specs.Recovery.{used_on, with_used};
 ghost use Rattle.recover_words.specs.RecoverWords.{recover_number, after_recover};
 
 use encoding::TOO_SHORT;
-use table_words::TABLE_LENGTH;
+use table_words::{NUMERATORS_OFFSET, TABLE_LENGTH, USED_OFFSET};
+
+// Stores the used of every server by the medium.
+fn recount(words: &mut [u32], medium: &[u32])
+    requires table_length_in_bounds { table_length ≤ length words.old }
+    requires words_value { sound (table_from words.old) ≡ true }
+    requires words_in_bounds { server_at (table_from words.old).capacity (table_from words.old).count ≤ length medium.now }
+    ensures { words.new
+        ≡ with_table words.old (with_used (table_from words.old) (used_on (table_from words.old).capacity medium.now)) }
+{
+    let shape = table_words::shape_of(words);
+    let used = &mut words[USED_OFFSET..NUMERATORS_OFFSET];
+    recovery::recount(medium, shape.capacity as usize, shape.count, used);
+}
 
 // Sets the used of every server from the medium, which is only read, and answers the refusal number.
-#[tactic(auto, unfolding(crate::specs::RecoverWords::recover_number, crate::specs::RecoverWords::after_recover, table_words::specs::Words::with_table))]
 pub fn recover(table: &mut [u32], medium: &[u32]) -> u32
     ensures number { result ≡ recover_number table.old medium.now }
     ensures table { table.new ≡ after_recover table.old medium.now }
@@ -16,8 +32,10 @@ pub fn recover(table: &mut [u32], medium: &[u32]) -> u32
     if table.len() < TABLE_LENGTH {
         return TOO_SHORT;
     }
-    let mut next = table_words::view_of(table).to_table();
-    let recovered = recovery::recover(&mut next, medium);
-    table_words::store_table(table, &next);
-    replies::check_reply(&recovered).refusal
+    let check = recovery::check(&table_words::view_of(table), medium);
+    if let Err(refusal) = check {
+        return refusal.number();
+    }
+    recount(table, medium);
+    0
 }

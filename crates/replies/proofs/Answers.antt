@@ -57,21 +57,11 @@ module _ (rows : List Row) (e : first_of rows ≡ 0) where
   unfolding reply_by
   reply-done done = settle-yes rows done (refused (first_of rows) 0) e
 
--- the two things that a refused plan of a write says
-pub plan-refused : (rows : List Row) (r : Refusal) (k : ℕ) → number_of r ≡ first_of rows → (number_of r ≡ first_of rows) × (0 ≡ settle rows k 0)
-plan-refused rows r k e = (e, kept rows r e k 0)
-
 -- the number is that of the reply
 pub number_of_reply : {A : Type 0} (a : Result A Refusal) → check_number a ≡ (reply_of_check a).refusal
 unfolding check_number reply_of_check
 number_of_reply (Ok _) = refl
 number_of_reply (Err r) = refl
-
--- the answer of start is what its test says
-pub check-reply : {A : Type 0} (rows : List Row) (a : Result A Refusal) → check_number a ≡ first_of rows → reply_of_check a ≡ reply_by rows accepted
-unfolding check_number reply_of_check
-check-reply rows (Ok _) e = sym (reply-done rows (sym e) accepted)
-check-reply rows (Err r) e = reply-refused rows r e accepted
 
 -- the refusal number of a reply is that of its rows
 pub reply-number : (rows : List Row) (done : Reply) → done.refusal ≡ 0 → (reply_by rows done).refusal ≡ first_of rows

@@ -1,5 +1,5 @@
-// A server's entries by blocks: whether a block may bear an id, and the blocks that a search from the highest entry down may pass
-// over.
+// A server's entries by blocks: whether a block may bear an id, the blocks that a search from the highest entry down may pass over, and
+// the newest entry of an id.
 #![tactic(auto)]
 
 ghost use Rattle.std.specs.Prelude.{◌≡◌, ◌<◌, ◌≤◌, ◌+◌, ◌*◌, length, eqb};

@@ -36,8 +36,7 @@ pub fn find(table: &View<'_>, steps: &Steps, medium: &[u32], id: u32) -> SearchA
         if placement::takes(table.read_p(server), steps, salt, id, server) {
             opened += 1;
             let used = table.used[server] as usize;
-            let newest = scan::newest(medium, entries, used, id, server);
-            if let Some(entry) = newest {
+            if let Some(entry) = scan::newest(medium, entries, used, id, server) {
                 let met = Some(Place { server, entry });
                 return SearchAnswer { met, opened };
             }

@@ -2,7 +2,7 @@
 use Rattle.std.specs.Prelude.{ℕ, ◌≤◌, ◌<◌, List, length, take, Option, None, Some}
 use Rattle.std.specs.Io.KnownBytes.{Consumes, IsAtEnd}
 
--- it gives at most as many bytes as there is room for, or it fails and gives nothing
+-- it gives at most as many bytes as there is room for, or it fails
 abbrev pub AtMost : ℕ → Option ℕ → Type 0
 AtMost room (Some n) = n ≤ room
 AtMost room None = Unit {0}

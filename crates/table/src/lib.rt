@@ -1,4 +1,4 @@
-// The table of servers, by value: an empty one, and whether one is sound.
+// The table of servers, by value and lent: an empty one, what is read of one, and whether one is sound.
 #![tactic(auto)]
 
 ghost use Rattle.std.specs.Prelude.{◌≡◌, ◌<◌, true, cond, leb, ltb};
@@ -113,7 +113,7 @@ fn read_sound(read: Fraction, weight: u32, sum: u32) -> bool
     placement::at_least(read, write)
 }
 
-impl<'a> View<'a> {
+impl View<'_> {
     // ReadP of a server.
     pub fn read_p(&self, server: usize) -> Fraction
         requires { server < max_servers }

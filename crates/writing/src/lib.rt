@@ -19,7 +19,6 @@ use table::{Table, View};
 const ENTRY_BURNS: usize = 2;
 
 // Whether `burns` are all that a write with `n` marks makes, or more.
-#[tactic(auto)]
 pub fn is_whole(n: usize, burns: usize) -> bool
     ensures { result ≡ leb (n + 2) burns }
 {

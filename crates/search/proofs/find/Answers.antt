@@ -8,20 +8,20 @@ use Rattle.search.proofs.find.Goals as goal
 pub loop-server-init : goal.loop-server-init
 loop-server-init c = record { few = omega arith; left = all_left _ _ _ }
 
-pub newest-newest-requires-clause-inside : goal.newest-newest-requires-clause-inside
-newest-newest-requires-clause-inside c = each-inside _ _ _ _ _ c.requires (omega arith)
+pub newest-requires-clause-inside : goal.newest-requires-clause-inside
+newest-requires-clause-inside c = each-inside _ _ _ _ _ c.requires (omega arith)
 
 pub returns-in-Some : goal.returns-in-Some
 returns-in-Some c =
     let s = c.loop-server in
-    sym (s.invariant.left ∙ server-met (table_of c.args.table.now) c.args.medium.now c.args.id s.opened s.server (omega arith) (rw c.read_p.ensures at c.takes.ensures) c.if-takes.true c.newest-newest.ensures _ c.in-Some.is)
+    sym (s.invariant.left ∙ server-met (table_of c.args.table.now) c.args.medium.now c.args.id s.opened s.server (omega arith) (rw c.read_p.ensures at c.takes.ensures) c.if-takes.true c.newest.ensures _ c.in-Some.is)
 
 pub loop-server-preserved-in_default : goal.loop-server-preserved-in_default
 loop-server-preserved-in_default c =
     let s = c.loop-server in
     record {
       few = omega arith;
-      left = s.invariant.left ∙ server-missed (table_of c.args.table.now) c.args.medium.now c.args.id s.opened s.server (omega arith) (rw c.read_p.ensures at c.takes.ensures) c.if-takes.true c.newest-newest.ensures c.in_default.is;
+      left = s.invariant.left ∙ server-missed (table_of c.args.table.now) c.args.medium.now c.args.id s.opened s.server (omega arith) (rw c.read_p.ensures at c.takes.ensures) c.if-takes.true c.newest.ensures c.in_default.is;
     }
 
 pub loop-server-preserved : goal.loop-server-preserved
