@@ -1,17 +1,18 @@
 -- Laws of servers with their limits.
 -- Assumes nothing.
 use Prim.Native.Nat.{ℕ, ◌+◌, ◌≤◌, ◌<◌}
-use mathlib.Core.Path.{◌≡◌, sym, ap, ◌∙◌}
-use mathlib.Core.Bool.{Bool, true, false, ◌&&◌}
+use mathlib.Core.Path.{◌≡◌, refl, sym, ap, ◌∙◌}
+use mathlib.Core.Bool.{Bool, true, false, ◌&&◌, ◌||◌}
 use mathlib.Core.List.{List}
 use native.Mathlib.Omega.{arith}
 use lib.ListN.{length, set}
 use lib.Seq.{get_or-set_same, get_or-set_other}
+use Rattle.std.proofs.Math.Bool.{or_comm}
 use lib.Dec.{leb, ltb, eqb}
 use borrow.Author.Tests.{eqb-true, eqb-false}
 use Rattle.lists.specs.Below.{nth, some_below, highest, or_zero, total}
 use Rattle.lists.proofs.Tests.{by_bool}
-use Rattle.lists.proofs.Below.{highest-past, highest-among}
+use Rattle.lists.proofs.Below.{some_below-next, highest-next, highest-past, highest-among}
 use Rattle.draws.specs.Draw.{modulus, draw_of}
 use Rattle.draws.proofs.Draws.{draw<}
 use Rattle.placement.specs.Fraction.{exceeds}
@@ -40,6 +41,20 @@ limits-more ws ls n sum l inside before e here = λ k a x h. by_bool (eqb k n)
 pub passes-is : (ws ls : List ℕ) (salt id k draw : ℕ) → Limited ws ls → k < length ws → draw ≡ draw_of salt id k
     → ltb 0 (nth ws k) && leb draw (nth ls k) ≡ passes ws salt id k
 passes-is ws ls salt id k draw H l e = rw e (sym (H.rule k _ l (draw< salt id k)))
+
+-- no server of a block, and one more
+pub some-none : (p : ℕ → Bool) → false ≡ some_below p 0
+unfolding some_below
+some-none p = refl
+
+pub highest-none : (p : ℕ → Bool) → 0 ≡ or_zero (highest p 0)
+unfolding highest or_zero
+highest-none p = refl
+
+pub some-more : (p : ℕ → Bool) (n : ℕ) (found here : Bool) → here ≡ p n → found ≡ some_below p n → found || here ≡ some_below p (n + 1)
+some-more p n found here e d = or_comm found here ∙ some_below-next p n here found e d
+
+pub ruleset blocks = (some-none, some-more, highest-none, highest-next)
 
 -- the write server of an id, by the tests of the first k servers
 abbrev pub ServedBy : List ℕ → ℕ → ℕ → ℕ → Type 0

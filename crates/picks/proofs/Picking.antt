@@ -28,22 +28,20 @@ bounded-facts ws e = record {
   light = λ k l. leb-true (nth ws k) 65536 (all_below-out (light ws) (length ws) (and_r (leb (length ws) 256) _ (and_r (leb 1 (length ws)) _ e)) k l);
 }
 
--- the write server of id i
-abbrev pub server_of : List ℕ → ℕ → List ℕ → ℕ → ℕ
-server_of ws salt ids i = write_server (nth ws) (length ws) salt (nth ids i)
-
-pub picked-small : (ws : List ℕ) (salt : ℕ) (ids : List ℕ) (i k : ℕ) → Bounded ws (length ws) → k ≡ server_of ws salt ids i → k < 4294967296
+pub served_small : (ws : List ℕ) (salt id k : ℕ) → Bounded ws (length ws) → k ≡ write_server (nth ws) (length ws) salt id → k < 4294967296
 unfolding write_server pick
-picked-small ws salt ids i k B e = omega (arith, highest-le (takes modulus (draw_of salt (nth ids i)) (write_p (nth ws))) (length ws), B.few)
+served_small ws salt id k B e = omega (arith, highest-le (takes modulus (draw_of salt id) (write_p (nth ws))) (length ws), B.few)
 
--- the first n ids have the write servers that they have among all
-pub first-picked : (ws : List ℕ) (salt : ℕ) (ids servers : List ℕ) (n : ℕ) → n ≤ length ids
-    → set_below (server_of ws salt (take n ids)) (length (take n ids)) servers ≡ set_below (server_of ws salt ids) n servers
-first-picked ws salt ids servers n l =
-    rw (length-take-le n ids l)
-    (set_below-cong _ _ n servers (λ k a. ap (λ (id : ℕ). write_server (nth ws) (length ws) salt id) (get_or-take n ids k 0 a)))
+-- the write server of an id
+abbrev pub served_by : List ℕ → ℕ → ℕ → ℕ
+served_by ws salt id = write_server (nth ws) (length ws) salt id
 
-pub ruleset picking = (bounded-facts, first-picked, le-ltb, lt-ltb)
+-- the first n ids have by a rule what they have among all
+pub first-stored : (rule : ℕ → ℕ) (ids servers : List ℕ) (n : ℕ) → n ≤ length ids
+    → set_below (λ i. rule (nth (take n ids) i)) (length (take n ids)) servers ≡ set_below (λ i. rule (nth ids i)) n servers
+first-stored rule ids servers n l = rw (length-take-le n ids l) (set_below-cong _ _ n servers (λ k a. ap rule (get_or-take n ids k 0 a)))
+
+pub ruleset picking = (bounded-facts, served_small, le-ltb, lt-ltb)
 
 -- the test of all weights, by the library's word
 pub light-all : (ws : List ℕ) → all_below (light ws) (length ws) ≡ list_all (λ w. leb w max_capacity) ws

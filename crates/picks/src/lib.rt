@@ -2,7 +2,7 @@
 // limit for each server, the greatest draw by which it takes. Then the draws of an id are compared a block of servers at a time.
 #![tactic(auto)]
 
-ghost use Rattle.std.specs.Prelude.{◌≡◌, true, ◌+◌, ◌≤◌, ◌<◌, length, leb};
+ghost use Rattle.std.specs.Prelude.{◌≡◌, ℕ, true, ◌+◌, ◌≤◌, ◌<◌, length, leb};
 ghost use Rattle.std.specs.List.{list_all};
 ghost use Rattle.limits.specs.Limits.{max_capacity};
 ghost use Rattle.lists.specs.Below.{nth, some_below, highest, or_zero, set_below};
@@ -35,120 +35,142 @@ fn are_bounded(weights: &[u32]) -> bool
     (1..=MAX_SERVERS).contains(&weights.len()) && are_light(weights)
 }
 
-// The limit of each server.
-fn limits_of(weights: &[u32]) -> Column
-    requires { Bounded weights.now (length weights.now) }
-    ensures { Limited weights.now result }
+// What the write server of an id is picked by: the weights, the limits of their servers, the steps and the salt. The columns are
+// lent, since a struct that holds them has them copied into it at each call of `picks`.
+#[derive(Clone, Copy)]
+struct Picker<'a> {
+    weights: &'a [u32],
+    limits: &'a Column,
+    steps: &'a Steps,
+    salt: u32,
+    ghost bounded: { Bounded weights.now (length weights.now) },
+    ghost limited: { Limited weights.now limits.now },
+}
+
+impl Picker<'_> {
+    // Whether a server takes an id: its weight is not 0 and its draw is not above its limit.
+    fn takes(&self, id: u32, k: usize) -> bool
+        requires { k < length self.now.weights.now }
+        ensures { result ≡ passes self.now.weights.now self.now.salt id k }
+    {
+        let draw = self.steps.draw(self.salt, id, k);
+        (0 < self.weights[k]) & (draw <= self.limits[k])
+    }
+
+    // Whether one of a block of servers takes an id. All are looked at, so that the compiler compares several at a time: `any`
+    // would leave at the first that takes.
+    #[tactic(auto, using(crate::proofs::Limiting::blocks))]
+    fn some_takes(&self, id: u32, from: usize) -> bool
+        requires { from + block ≤ length self.now.weights.now }
+        ensures { result ≡ some_below (λ i. passes self.now.weights.now self.now.salt id (from + i)) block }
+    {
+        let mut found = false;
+        for i in 0..BLOCK {
+            found |= self.takes(id, from + i);
+        }
+        found
+    }
+
+    // The highest server of a block that takes an id, counted from the block's first; 0 where none does. `some_takes` stands
+    // beside it for speed: most blocks have none that takes, and it is the cheaper test.
+    #[tactic(auto, using(crate::proofs::Limiting::blocks))]
+    fn highest_of(&self, id: u32, from: usize) -> usize
+        requires { from + block ≤ length self.now.weights.now }
+        ensures { result ≡ or_zero (highest (λ i. passes self.now.weights.now self.now.salt id (from + i)) block) }
+    {
+        let mut best = 0;
+        for j in 0..BLOCK {
+            if self.takes(id, from + j) {
+                best = j;
+            }
+        }
+        best
+    }
+
+    // The write server of an id: from the highest down, a block of which none takes it is passed over, and the lowest servers,
+    // too few for a block, are left to `write_server`.
+    fn server_of(&self, id: u32) -> usize
+        ensures { result ≡ write_server (nth self.now.weights.now) (length self.now.weights.now) self.now.salt id }
+    {
+        let rest = self.weights.len() % BLOCK;
+        for block in (0..self.weights.len() / BLOCK).rev() {
+            let from = rest + BLOCK * block;
+            if self.some_takes(id, from) {
+                return from + self.highest_of(id, from);
+            }
+        }
+        placement::write_server(self.weights, self.steps, rest, self.salt, id)
+    }
+}
+
+// Stores what a function gives for each of the ids, in their order: the numbers of a rule where it follows one.
+fn store_each<F: Fn(u32) -> u32>(ids: &[u32], servers: &mut [u32], pick: F)
+    requires callable { F.IsAlwaysCallable pick }
+    requires room { length ids.now ≤ length servers.old }
+    ensures { (rule : ℕ → ℕ) → ((id r : ℕ) → F.post pick id r → r ≡ rule id)
+        → servers.new ≡ set_below (λ i. rule (nth ids.now i)) (length ids.now) servers.old }
 {
-    let mut limits: Column = [0; MAX_SERVERS];
-    let mut sum = 0;
-    for (k, &weight) in weights.iter().enumerate() {
-        sum += weight;
-        limits[k] = placement::limit(Fraction {
-            num: weight,
-            den: sum,
+    for (i, id) in ids.iter().enumerate() {
+        servers[i] = pick(*id);
+    }
+}
+
+// Weights that are bounded: at most 256, and each at most 65,536.
+#[derive(Clone, Copy)]
+struct Weights<'a> {
+    all: &'a [u32],
+    ghost bounded: { Bounded all.now (length all.now) },
+}
+
+impl Weights<'_> {
+    // The limit of each server.
+    fn limits(&self) -> Column
+        ensures { Limited self.now.all.now result }
+    {
+        let mut limits: Column = [0; MAX_SERVERS];
+        let mut sum = 0;
+        for (k, &weight) in self.all.iter().enumerate() {
+            sum += weight;
+            limits[k] = placement::limit(Fraction {
+                num: weight,
+                den: sum,
+            });
+        }
+        limits
+    }
+
+    // Stores the write servers of many ids, by the limits of the servers. It stands apart from `pick_few`, and both from `picks`,
+    // since a function fills with zeros, at each call, all columns that it has.
+    #[tactic(auto, using(crate::proofs::Picking::picking))]
+    fn pick_many(&self, salt: u32, ids: &[u32], servers: &mut [u32])
+        requires { length ids.now ≤ length servers.old }
+        ensures { servers.new
+            ≡ set_below (λ i. write_server (nth self.now.all.now) (length self.now.all.now) salt (nth ids.now i)) (length ids.now)
+            servers.old }
+    {
+        let limits = self.limits();
+        let steps = Steps::new();
+        let picker = Picker {
+            weights: self.all,
+            limits: &limits,
+            steps: &steps,
+            salt,
+        };
+        store_each(ids, servers, |id| picker.server_of(id) as u32);
+    }
+
+    // Stores the write servers of a few ids, each picked for alone.
+    #[tactic(auto, using(crate::proofs::Picking::picking))]
+    fn pick_few(&self, salt: u32, ids: &[u32], servers: &mut [u32])
+        requires { length ids.now ≤ length servers.old }
+        ensures { servers.new
+            ≡ set_below (λ i. write_server (nth self.now.all.now) (length self.now.all.now) salt (nth ids.now i)) (length ids.now)
+            servers.old }
+    {
+        let steps = Steps::new();
+        store_each(ids, servers, |id| {
+            placement::write_server(self.all, &steps, self.all.len(), salt, id) as u32
         });
-    }
-    limits
-}
-
-// Whether a server takes an id: its weight is not 0 and its draw is not above its limit.
-fn takes(weights: &[u32], limits: &Column, steps: &Steps, salt: u32, id: u32, k: usize) -> bool
-    requires limited { Limited weights.now limits.now }
-    requires k_in_bounds { k < length weights.now }
-    ensures { result ≡ passes weights.now salt id k }
-{
-    let draw = steps.draw(salt, id, k);
-    (0 < weights[k]) & (draw <= limits[k])
-}
-
-// Whether one of a block of servers takes an id. All are looked at, so that the compiler compares several at a time: `any` would
-// leave at the first that takes.
-fn some_takes(
-    weights: &[u32],
-    limits: &Column,
-    steps: &Steps,
-    salt: u32,
-    id: u32,
-    from: usize,
-) -> bool
-    requires limited { Limited weights.now limits.now }
-    requires block_in_bounds { from + block ≤ length weights.now }
-    ensures { result ≡ some_below (λ i. passes weights.now salt id (from + i)) block }
-{
-    let mut found = false;
-    for i in 0..BLOCK {
-        found |= takes(weights, limits, steps, salt, id, from + i);
-    }
-    found
-}
-
-// The highest server of a block that takes an id, counted from the block's first; 0 where none does. `some_takes` stands beside it
-// for speed: most blocks have none that takes, and it is the cheaper test.
-fn highest_of(
-    weights: &[u32],
-    limits: &Column,
-    steps: &Steps,
-    salt: u32,
-    id: u32,
-    from: usize,
-) -> usize
-    requires limited { Limited weights.now limits.now }
-    requires block_in_bounds { from + block ≤ length weights.now }
-    ensures { result ≡ or_zero (highest (λ i. passes weights.now salt id (from + i)) block) }
-{
-    let mut best = 0;
-    for j in 0..BLOCK {
-        if takes(weights, limits, steps, salt, id, from + j) {
-            best = j;
-        }
-    }
-    best
-}
-
-// The write server of an id: from the highest down, a block of which none takes it is passed over, and the lowest servers, too few
-// for a block, are left to `write_server`.
-fn server_of(weights: &[u32], limits: &Column, steps: &Steps, salt: u32, id: u32) -> usize
-    requires bounded { Bounded weights.now (length weights.now) }
-    requires limited { Limited weights.now limits.now }
-    ensures { result ≡ write_server (nth weights.now) (length weights.now) salt id }
-{
-    let rest = weights.len() % BLOCK;
-    for block in (0..weights.len() / BLOCK).rev() {
-        let from = rest + BLOCK * block;
-        if some_takes(weights, limits, steps, salt, id, from) {
-            return from + highest_of(weights, limits, steps, salt, id, from);
-        }
-    }
-    placement::write_server(weights, steps, rest, salt, id)
-}
-
-// Stores the write servers of many ids, by the limits of the servers.
-fn pick_many(weights: &[u32], salt: u32, ids: &[u32], servers: &mut [u32])
-    requires bounded { Bounded weights.now (length weights.now) }
-    requires room { length ids.now ≤ length servers.old }
-    ensures { servers.new
-        ≡ set_below (λ i. write_server (nth weights.now) (length weights.now) salt (nth ids.now i)) (length ids.now)
-        servers.old }
-{
-    let limits = limits_of(weights);
-    let steps = Steps::new();
-    for (i, id) in ids.iter().enumerate() {
-        servers[i] = server_of(weights, &limits, &steps, salt, *id) as u32;
-    }
-}
-
-// Stores the write servers of a few ids, each picked for alone.
-fn pick_few(weights: &[u32], salt: u32, ids: &[u32], servers: &mut [u32])
-    requires bounded { Bounded weights.now (length weights.now) }
-    requires room { length ids.now ≤ length servers.old }
-    ensures { servers.new
-        ≡ set_below (λ i. write_server (nth weights.now) (length weights.now) salt (nth ids.now i)) (length ids.now)
-        servers.old }
-{
-    let steps = Steps::new();
-    for (i, id) in ids.iter().enumerate() {
-        servers[i] = placement::write_server(weights, &steps, weights.len(), salt, *id) as u32;
     }
 }
 
@@ -168,10 +190,11 @@ pub fn picks(weights: &[u32], salt: u32, ids: &[u32], servers: &mut [u32]) -> us
         return 0;
     }
     let n = ids.len().min(servers.len());
+    let bounded = Weights { all: weights };
     if (BLOCK <= weights.len()) & (MANY <= n) {
-        pick_many(weights, salt, &ids[..n], servers);
+        bounded.pick_many(salt, &ids[..n], servers);
     } else {
-        pick_few(weights, salt, &ids[..n], servers);
+        bounded.pick_few(salt, &ids[..n], servers);
     }
     n
 }

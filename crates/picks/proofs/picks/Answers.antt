@@ -1,10 +1,10 @@
 -- `picks::picks` meets its contract: the ids that there is room for have the write servers that they have among all.
 use Rattle.std.proofs.Common.{◌∙◌, arith}
-use Rattle.picks.proofs.Picking.{first-picked}
+use Rattle.picks.proofs.Picking.{served_by, first-stored}
 use Rattle.picks.proofs.picks.Goals as goal
 
 pub returns-then-weights-n-clause-servers : goal.returns-then-weights-n-clause-servers
-returns-then-weights-n-clause-servers c = c.pick_many.ensures ∙ first-picked _ _ _ _ _ (omega arith)
+returns-then-weights-n-clause-servers c = c.pick_many.ensures ∙ first-stored (served_by c.args.weights.now c.args.salt) _ _ _ (omega arith)
 
 pub returns-else-weights-n-clause-servers : goal.returns-else-weights-n-clause-servers
-returns-else-weights-n-clause-servers c = c.pick_few.ensures ∙ first-picked _ _ _ _ _ (omega arith)
+returns-else-weights-n-clause-servers c = c.pick_few.ensures ∙ first-stored (served_by c.args.weights.now c.args.salt) _ _ _ (omega arith)

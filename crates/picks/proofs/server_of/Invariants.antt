@@ -1,8 +1,0 @@
--- `picks::server_of` meets its contract. The invariant: the write server is the highest of those left that take the id.
-use Rattle.std.proofs.Common.{◌+◌, ◌*◌}
-use Rattle.picks.specs.Limited.{block}
-use Rattle.picks.proofs.Limiting.{ServedBy}
-use Rattle.picks.proofs.server_of.Given as goal
-
-abbrev pub invariant-loop-block : goal.invariant-loop-block
-invariant-loop-block l = ServedBy l.weights l.salt l.id (l.rest + block * l.block)
