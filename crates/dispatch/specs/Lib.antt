@@ -1,2 +1,2 @@
-pub mod ByNumber
-pub mod BySome
+pub mod OneCall
+pub mod SomeBurns

@@ -1,22 +1,23 @@
-// One call, run by its number: add_server and reweight on a table by reference, every other call on a table that is lent.
+// One call: add_server and reweight run on a table by reference, every other call on a table that is lent.
 #![tactic(auto)]
 
-ghost use Rattle.std.specs.Prelude.{◌≡◌, ◌≢◌, ℕ, ◌<◌, length};
+ghost use Rattle.std.specs.Prelude.{◌≡◌, true, false, ◌<◌, length};
 ghost use Rattle.limits.specs.Limits.{max_capacity};
 ghost use Rattle.lists.specs.Below.{nth};
 ghost use Rattle.table.specs.Parts.{table_of};
-ghost use Rattle.replies.specs.Number.{add_server_number, reweight_number, write_number};
+ghost use Rattle.calls.specs.Numbered.{on_servers, is_write};
 ghost use Rattle.replies.specs.Reply.{refused};
-ghost use Rattle.dispatch.specs.ByNumber.{call_of, no_call_number, reply_to, next_by, used_after};
-ghost use Rattle.dispatch.specs.BySome.{some_reply, some_next};
+ghost use Rattle.dispatch.specs.OneCall.{no_call_number, reply_to, next_by, used_after, counters_after};
+ghost use Rattle.dispatch.specs.SomeBurns.{some_reply, some_next};
 
+use calls::Call;
 use draws::Steps;
 use limits::ALL_BURNS;
-use replies::{ADD_SERVER, DELETE, LOOKUP, REWEIGHT, Reply, WRITE};
+use replies::Reply;
 use table::{Table, View};
 
 // What is no call gets a refusal number that no call gives.
-fn no_call() -> Reply
+pub fn no_call() -> Reply
     ensures { result ≡ refused no_call_number 0 }
 {
     Reply {
@@ -28,30 +29,25 @@ fn no_call() -> Reply
     }
 }
 
-// Runs a write or a delete with a number of burns on a table that is lent; any other number is no call. The call's numbers come
-// first, so that they are handed over in registers (docs/BENCHMARKS.md).
-#[tactic(auto, unfolding(crate::specs::BySome::some_reply, crate::specs::BySome::some_next))]
+// Runs a write or a delete with a number of burns on a table that is lent; any other call is no call here.
+#[tactic(auto, unfolding(crate::specs::SomeBurns::some_reply, crate::specs::SomeBurns::some_next))]
 pub fn run_some(
-    number: u32,
-    tenant: u32,
-    id: u32,
-    value: u32,
+    call: Option<Call>,
     burns: usize,
     table: &View<'_>,
     steps: &Steps,
     medium: &mut [u32],
 ) -> Reply
-    ensures reply { result
-        ≡ some_reply (record { table = table_of table.now; medium = medium.old }) number tenant id value }
+    ensures reply { result ≡ some_reply (record { table = table_of table.now; medium = medium.old }) call }
     ensures medium { medium.new
-        ≡ (some_next (record { table = table_of table.now; medium = medium.old }) number tenant id value burns).medium }
+        ≡ (some_next (record { table = table_of table.now; medium = medium.old }) call burns).medium }
 {
-    match number {
-        WRITE => {
+    match call {
+        Some(Call::Write { tenant, id, value }) => {
             let written = writing::write_in(table, steps, medium, tenant, id, value, burns);
             replies::write_reply(written)
         }
-        DELETE => {
+        Some(Call::Delete { tenant, id }) => {
             let deleted = deletion::delete_in(table, steps, medium, tenant, id, burns);
             replies::delete_reply(deleted)
         }
@@ -59,67 +55,61 @@ pub fn run_some(
     }
 }
 
-// Runs a call but add_server and reweight on a table that is lent. `count_write` and `counters::count` then make the table after it.
-#[tactic(auto, unfolding(crate::specs::ByNumber::call_of, crate::specs::ByNumber::reply_to, crate::specs::ByNumber::next_by, history::specs::Machine::reply, history::specs::Machine::next))]
-pub fn run_in(
-    table: &View<'_>,
-    steps: &Steps,
-    medium: &mut [u32],
-    number: u32,
-    tenant: u32,
-    subject: u32,
-    amount: u32,
-) -> Reply
-    requires { (number ≢ add_server_number) × (number ≢ reweight_number) }
-    ensures reply { result
-        ≡ reply_to (record { table = table_of table.now; medium = medium.old }) (call_of number tenant subject amount) }
+// Runs a call but add_server and reweight on a table that is lent. `count_write` and `count_lookup` then make the table after it.
+#[tactic(auto, unfolding(crate::specs::OneCall::in_list, crate::specs::OneCall::reply_to, crate::specs::OneCall::next_by, history::specs::Machine::reply, history::specs::Machine::next))]
+pub fn run_in(call: Call, table: &View<'_>, steps: &Steps, medium: &mut [u32]) -> Reply
+    requires { on_servers call ≡ false }
+    ensures reply { result ≡ reply_to (record { table = table_of table.now; medium = medium.old }) (Some call) }
     ensures medium { medium.new
-        ≡ (next_by (record { table = table_of table.now; medium = medium.old }) (call_of number tenant subject amount)).medium }
+        ≡ (next_by (record { table = table_of table.now; medium = medium.old }) (Some call)).medium }
 {
-    if number == LOOKUP {
-        let answer = lookup::lookup_in(table, steps, medium, tenant, subject);
-        return replies::lookup_reply(answer);
+    match call {
+        Call::Lookup { tenant, id } => {
+            let answer = lookup::lookup_in(table, steps, medium, tenant, id);
+            replies::lookup_reply(answer)
+        }
+        _ => run_some(Some(call), ALL_BURNS, table, steps, medium),
     }
-    run_some(
-        number, tenant, subject, amount, ALL_BURNS, table, steps, medium,
-    )
 }
 
 // Counts the entry of an accepted write as used on its server.
-#[tactic(auto, unfolding(crate::specs::ByNumber::used_after))]
-pub fn count_write(used: &mut [u32], number: u32, reply: Reply)
-    requires { number ≡ write_number → reply.refusal ≡ 0 → (reply.server < length used.old) × (nth used.old reply.server < max_capacity) }
-    ensures { used.new ≡ used_after used.old number reply }
+#[tactic(auto, unfolding(crate::specs::OneCall::used_after))]
+pub fn count_write(used: &mut [u32], call: Call, reply: Reply)
+    requires { is_write call ≡ true → reply.refusal ≡ 0 → (reply.server < length used.old) × (nth used.old reply.server < max_capacity) }
+    ensures { used.new ≡ used_after used.old call reply }
 {
-    if number == WRITE && reply.refusal == 0 {
-        upkeep::count_entry(used, reply.server);
+    if let Call::Write { .. } = call {
+        if reply.refusal == 0 {
+            upkeep::count_entry(used, reply.server);
+        }
     }
 }
 
-// Runs add_server or reweight, which have no tenant and only read the medium; 0 is no call.
-#[tactic(auto, unfolding(crate::specs::ByNumber::call_of, crate::specs::ByNumber::reply_to, crate::specs::ByNumber::next_by, history::specs::Machine::reply, history::specs::Machine::next))]
-pub fn run_change(
-    table: &mut Table,
-    medium: &[u32],
-    number: u32,
-    subject: u32,
-    amount: u32,
-) -> Reply
-    requires { number < write_number }
-    ensures reply { (tenant : ℕ) → result
-        ≡ reply_to (record { table = table.old; medium = medium.now }) (call_of number tenant subject amount) }
-    ensures table { (tenant : ℕ) → table.new
-        ≡ (next_by (record { table = table.old; medium = medium.now }) (call_of number tenant subject amount)).table }
-    ensures medium { (tenant : ℕ) → medium.now
-        ≡ (next_by (record { table = table.old; medium = medium.now }) (call_of number tenant subject amount)).medium }
+// Counts the servers that a lookup opened for its tenant.
+#[tactic(auto, unfolding(crate::specs::OneCall::counters_after))]
+pub fn count_lookup(counters: &mut [u32], call: Call, reply: Reply)
+    ensures { counters.new ≡ counters_after counters.old call reply }
 {
-    match number {
-        ADD_SERVER => {
-            let server = servers::add_server(table, medium, amount);
+    if let Call::Lookup { tenant, .. } = call {
+        counters::count(counters, tenant, reply.opened);
+    }
+}
+
+// Runs add_server or reweight, which have no tenant and only read the medium.
+#[tactic(auto, unfolding(crate::specs::OneCall::in_list, crate::specs::OneCall::reply_to, crate::specs::OneCall::next_by, history::specs::Machine::reply, history::specs::Machine::next))]
+pub fn run_change(call: Call, table: &mut Table, medium: &[u32]) -> Reply
+    requires { on_servers call ≡ true }
+    ensures reply { result ≡ reply_to (record { table = table.old; medium = medium.now }) (Some call) }
+    ensures table { table.new ≡ (next_by (record { table = table.old; medium = medium.now }) (Some call)).table }
+    ensures medium { medium.now ≡ (next_by (record { table = table.old; medium = medium.now }) (Some call)).medium }
+{
+    match call {
+        Call::AddServer { weight } => {
+            let server = servers::add_server(table, medium, weight);
             replies::server_reply(server)
         }
-        REWEIGHT => {
-            let server = servers::reweight(table, subject as usize, amount);
+        Call::Reweight { server, weight } => {
+            let server = servers::reweight(table, server as usize, weight);
             replies::server_reply(server)
         }
         _ => no_call(),

@@ -13,8 +13,10 @@
 -- A call's number says which of its words count, and no other is read. The burns are read of a write or a delete that makes a number
 -- of its burns, and of no other call. No call reads its words 4, 5 and 7 yet, and word 3 of every reply is 0. All eight words of a reply
 -- are written, a 0 where it carries nothing.
-use Rattle.std.specs.Prelude.{ℕ, ◌+◌, ◌*◌, ◌/◌, min, List, set}
+use Rattle.std.specs.Prelude.{ℕ, ◌+◌, ◌*◌, ◌/◌, min, List, set, Option}
 use Rattle.lists.specs.Below.{nth}
+use Rattle.calls.specs.declared.Call.{Call}
+use Rattle.calls.specs.Numbered.{call_of}
 use Rattle.replies.specs.declared.Reply.{Reply}
 
 -- how many words a call has, and where those stand in it that are read
@@ -79,6 +81,13 @@ call_word words i k = nth words (call_length * i + k)
 
 abbrev pub reply_word : List ℕ → ℕ → ℕ → ℕ
 reply_word words i k = nth words (reply_length * i + k)
+
+-- the call whose words begin at a word, and call i
+unfoldable pub call_from : List ℕ → ℕ → Option Call
+call_from words at = call_of (nth words (at + number_offset)) (nth words (at + tenant_offset)) (nth words (at + subject_offset)) (nth words (at + amount_offset))
+
+abbrev pub call_at : List ℕ → ℕ → Option Call
+call_at words i = call_from words (call_length * i)
 
 -- the eight words of a reply that begins at a word
 unfoldable pub with_reply_at : List ℕ → ℕ → Reply → List ℕ

@@ -1,21 +1,22 @@
-// The words of calls and replies: how many fit, and a reply stored. specs/Encoding.antt says which word is which.
+// The words of calls and replies: how many fit, a call read and a reply stored. specs/Encoding.antt says which word is which.
 #![tactic(auto)]
 
 ghost use Rattle.std.specs.Prelude.{◌≡◌, ◌<◌, ◌≤◌, ◌+◌, length};
-ghost use Rattle.encoding.specs.Encoding.{reply_length, room_for, with_reply_at};
+ghost use Rattle.encoding.specs.Encoding.{call_length, reply_length, room_for, call_from, with_reply_at};
 
+use calls::Call;
 use replies::Reply;
 
 // How many words a call has, and where those stand that are read.
 pub const CALL_LENGTH: usize = 8;
 
-pub const NUMBER_OFFSET: usize = 0;
+const NUMBER_OFFSET: usize = 0;
 
-pub const TENANT_OFFSET: usize = 1;
+const TENANT_OFFSET: usize = 1;
 
-pub const SUBJECT_OFFSET: usize = 2;
+const SUBJECT_OFFSET: usize = 2;
 
-pub const AMOUNT_OFFSET: usize = 3;
+const AMOUNT_OFFSET: usize = 3;
 
 pub const BURNS_OFFSET: usize = 6;
 
@@ -46,6 +47,20 @@ pub fn room(calls: usize, replies: usize) -> usize
     ensures { result ≡ room_for calls replies }
 {
     (calls / CALL_LENGTH).min(replies / REPLY_LENGTH)
+}
+
+// The call whose words begin at a word, where its number is that of a call.
+#[tactic(auto, unfolding(crate::specs::Encoding::call_from))]
+pub fn call_from(words: &[u32], at: usize) -> Option<Call>
+    requires { at + call_length ≤ length words.now }
+    ensures { result ≡ call_from words.now at }
+{
+    Call::of(
+        words[at + NUMBER_OFFSET],
+        words[at + TENANT_OFFSET],
+        words[at + SUBJECT_OFFSET],
+        words[at + AMOUNT_OFFSET],
+    )
 }
 
 // Stores the eight words of a reply, from a word on.

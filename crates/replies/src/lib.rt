@@ -1,4 +1,4 @@
-// Why a call is refused and what each call answers, as types and in document 01's numbers, and the number of each call.
+// Why a call is refused and what each call answers, as types and in document 01's numbers.
 #![tactic(auto)]
 
 mod numbers;
@@ -6,17 +6,6 @@ mod numbers;
 pub use numbers::{
     check_number, check_reply, delete_reply, lookup_reply, server_reply, write_reply,
 };
-
-// The number of each call; 0 is no call.
-pub const ADD_SERVER: u32 = 1;
-
-pub const REWEIGHT: u32 = 2;
-
-pub const WRITE: u32 = 3;
-
-pub const DELETE: u32 = 4;
-
-pub const LOOKUP: u32 = 5;
 
 // Why a call is refused: a case for each number, in their order from 1 to 13. 1 to 10 are document 01's, the others
 // document 02's.

@@ -3,8 +3,8 @@ use mathlib.Core.Path.{◌∙◌}
 use Rattle.dispatch.proofs.Some.{some-reply, some-medium}
 use Rattle.dispatch.proofs.run_in.Goals as goal
 
-pub returns : goal.returns
-returns c = record {
-  reply = c.run_some.ensures.reply ∙ some-reply _ _ _ _ _ c.requires.0 c.requires.1 c.if-number-eq-LOOKUP.false;
-  medium = c.run_some.ensures.medium ∙ some-medium _ _ _ _ _ c.requires.0 c.requires.1 c.if-number-eq-LOOKUP.false;
+pub returns-in_default : goal.returns-in_default
+returns-in_default c = record {
+  reply = c.run_some.ensures.reply ∙ some-reply _ c.args.call c.requires c.in_default.not-Lookup;
+  medium = c.run_some.ensures.medium ∙ some-medium _ c.args.call c.requires c.in_default.not-Lookup;
 }
