@@ -11,7 +11,7 @@ use Rattle.lists.specs.Below.{nth}
 use Rattle.table.specs.declared.Table.{Table}
 use Rattle.table.specs.Parts.{with_counters}
 use Rattle.table_words.specs.Words.{capacity_offset, salt_offset, count_offset, weights_offset, used_offset, numerators_offset, denominators_offset, counters_offset, table_length, column_from, counters_from, table_from, words_of, with_table}
-use Rattle.dispatch.proofs.Calling.{with_used}
+use Rattle.dispatch.specs.OneCall.{with_used}
 use Rattle.call_words.specs.CallWords.{with_column}
 
 -- the first three words, and a run of the words after them

@@ -22,14 +22,16 @@ use Rattle.server_rows.specs.ServerRows.{add_server_rows, reweight_rows}
 use Rattle.server_rows.proofs.Accepted.{add_server-accepted}
 use Rattle.servers.specs.Servers.{add_server_table, reweight_table}
 use Rattle.batch.specs.Batch.{batch_table}
-use Rattle.history.specs.Call.{Call, add_server, reweight, write, delete, lookup, batch}
+use Rattle.history.specs.Call.{add_server, reweight, write, delete, lookup, batch}
+use Rattle.history.specs.Call as list
+use Rattle.calls.specs.declared.Call.{Call}
 use Rattle.history.specs.Machine.{State, next}
-use Rattle.dispatch.specs.ByNumber.{next_by}
+use Rattle.dispatch.specs.OneCall.{in_list, next_by}
 use Rattle.call_words.specs.CallWords.{lent}
 use Rattle.call_words.proofs.Columns.{long-table}
 
 -- a call keeps the arrays whole
-next-arrays : (S : State) (c : Call) → Arrays S.table → Arrays (next S c).table
+next-arrays : (S : State) (c : list.Call) → Arrays S.table → Arrays (next S c).table
 unfolding next add_server_table reweight_table write_table lookup_table batch_table
 next-arrays S (add_server weight) a = settle-either (add_server_rows S.table S.medium weight) _ _ Arrays (λ _. with_server-arrays S.table weight a) a
 next-arrays S (reweight server weight) a = settle-either (reweight_rows S.table server weight) _ _ Arrays (λ _. with_weight-arrays S.table server weight a) a
@@ -41,7 +43,7 @@ next-arrays S (batch tenant ids) a = with_opened-arrays S.table tenant _ a
 pub call-arrays : (S : State) (o : Option Call) → Arrays S.table → Arrays (next_by S o).table
 unfolding next_by
 call-arrays S None a = a
-call-arrays S (Some c) a = next-arrays S c a
+call-arrays S (Some c) a = next-arrays S (in_list c) a
 
 -- to store a table changes no length
 pub length-stored : (words : List ℕ) (t : Table) → table_length ≤ length words → Arrays t → length (with_table words t) ≡ length words
@@ -79,7 +81,7 @@ abbrev pub Fits : Table → Type 0
 Fits t = t.count < 4294967296
 
 -- a call leaves it so: it changes it only where the table is sound, and so the count small
-next-count : (S : State) (c : Call) → Fits S.table → Fits (next S c).table
+next-count : (S : State) (c : list.Call) → Fits S.table → Fits (next S c).table
 unfolding next add_server_table reweight_table write_table lookup_table batch_table with_server with_weight with_entry with_opened
 next-count S (add_server weight) l =
     settle-either (add_server_rows S.table S.medium weight) _ _ Fits (λ z. omega (arith, (add_server-accepted S.table S.medium weight z).few)) l
@@ -92,4 +94,4 @@ next-count S (batch tenant ids) l = l
 pub call-count : (S : State) (o : Option Call) → Fits S.table → Fits (next_by S o).table
 unfolding next_by
 call-count S None l = l
-call-count S (Some c) l = next-count S c l
+call-count S (Some c) l = next-count S (in_list c) l

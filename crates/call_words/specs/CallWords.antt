@@ -3,8 +3,8 @@
 use Rattle.std.specs.Prelude.{ℕ, ◌+◌, Bool, cond, ◌&&◌, List, ◌++◌, length, take, drop, leb}
 use Rattle.limits.specs.Limits.{max_servers}
 use Rattle.table_words.specs.Words.{table_length, table_from, with_table}
-use Rattle.encoding.specs.Encoding.{call_length, reply_length, too_short, with_reply_at}
-use Rattle.dispatch.specs.ByNumber.{call_at, reply_to, next_by}
+use Rattle.encoding.specs.Encoding.{call_length, reply_length, too_short, call_at, with_reply_at}
+use Rattle.dispatch.specs.OneCall.{reply_to, next_by}
 use Rattle.history.specs.Machine.{State}
 
 -- a lent table over a lent medium

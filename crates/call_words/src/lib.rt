@@ -1,30 +1,29 @@
 // One call on a table lent as words. Its columns are parts of the words, so that only add_server and reweight copy them.
 #![tactic(auto)]
 
-ghost use Rattle.std.specs.Prelude.{◌≡◌, true, ◌≢◌, ◌<◌, ◌≤◌, length};
+ghost use Rattle.std.specs.Prelude.{◌≡◌, true, ◌<◌, ◌≤◌, length};
 ghost use Rattle.limits.specs.Limits.{max_servers, max_capacity};
 ghost use Rattle.lists.specs.Below.{nth};
 ghost use Rattle.table_words.specs.Words.{used_offset, table_length, column_from, table_from, with_table};
 ghost use Rattle.upkeep.specs.Upkeep.{with_opened};
-ghost use Rattle.replies.specs.Number.{add_server_number, reweight_number, write_number};
-ghost use Rattle.dispatch.specs.ByNumber.{call_of, reply_to, next_by, used_after};
+ghost use Rattle.calls.specs.Numbered.{on_servers, is_write};
+ghost use Rattle.dispatch.specs.OneCall.{reply_to, next_by, used_after};
 ghost use Rattle.call_words.specs.CallWords.{lent, fits_call, after_call, with_column};
 
+use calls::Call;
 use draws::Steps;
-use encoding::{
-    AMOUNT_OFFSET, CALL_LENGTH, NUMBER_OFFSET, REPLY_LENGTH, SUBJECT_OFFSET, TENANT_OFFSET,
-};
-use replies::{Reply, WRITE};
+use encoding::{CALL_LENGTH, REPLY_LENGTH};
+use replies::Reply;
 use table_words::{COUNTERS_OFFSET, NUMERATORS_OFFSET, TABLE_LENGTH, USED_OFFSET};
 
 // Counts the entry of an accepted write as used on its server.
-pub fn count(words: &mut [u32], number: u32, reply: Reply)
+pub fn count(words: &mut [u32], call: Call, reply: Reply)
     requires table_length_in_bounds { table_length ≤ length words.old }
-    requires server_lt_max_servers { number ≡ write_number → reply.refusal ≡ 0
+    requires server_lt_max_servers { is_write call ≡ true → reply.refusal ≡ 0
         → (reply.server < max_servers) × (nth (column_from words.old used_offset) reply.server < max_capacity) }
-    ensures { words.new ≡ with_column words.old used_offset (used_after (column_from words.old used_offset) number reply) }
+    ensures { words.new ≡ with_column words.old used_offset (used_after (column_from words.old used_offset) call reply) }
 {
-    dispatch::count_write(&mut words[USED_OFFSET..NUMERATORS_OFFSET], number, reply);
+    dispatch::count_write(&mut words[USED_OFFSET..NUMERATORS_OFFSET], call, reply);
 }
 
 // Counts the servers that were opened for a tenant.
@@ -35,33 +34,36 @@ pub fn count_opened(words: &mut [u32], tenant: u32, opened: usize)
     counters::count(&mut words[COUNTERS_OFFSET..TABLE_LENGTH], tenant, opened);
 }
 
-// Runs a call by its number on a table lent as words. The call comes first: so its numbers, the id among them that a scan compares
-// with each entry, are handed over in registers (docs/BENCHMARKS.md).
-pub fn run(
-    number: u32,
-    tenant: u32,
-    subject: u32,
-    amount: u32,
-    table: &mut [u32],
-    medium: &mut [u32],
-    steps: &Steps,
-) -> Reply
-    requires { table_length ≤ length table.old }
-    ensures reply { result ≡ reply_to (lent table.old medium.old) (call_of number tenant subject amount) }
-    ensures table { table.new
-        ≡ with_table table.old (next_by (lent table.old medium.old) (call_of number tenant subject amount)).table }
-    ensures medium { medium.new ≡ (next_by (lent table.old medium.old) (call_of number tenant subject amount)).medium }
+// Runs add_server or reweight on a copy of the table, and stores it back.
+fn run_change(call: Call, table: &mut [u32], medium: &[u32]) -> Reply
+    requires table_length_in_bounds { table_length ≤ length table.old }
+    requires changes { on_servers call ≡ true }
+    ensures reply { result ≡ reply_to (lent table.old medium.now) (Some call) }
+    ensures table { table.new ≡ with_table table.old (next_by (lent table.old medium.now) (Some call)).table }
+    ensures medium { medium.now ≡ (next_by (lent table.old medium.now) (Some call)).medium }
 {
-    if number < WRITE {
-        let mut changed = table_words::view_of(table).to_table();
-        let reply = dispatch::run_change(&mut changed, medium, number, subject, amount);
-        table_words::store_table(table, &changed);
-        return reply;
+    let mut changed = table_words::view_of(table).to_table();
+    let reply = dispatch::run_change(call, &mut changed, medium);
+    table_words::store_table(table, &changed);
+    reply
+}
+
+// Runs a call on a table lent as words; what is no call changes nothing.
+pub fn run(call: Option<Call>, table: &mut [u32], medium: &mut [u32], steps: &Steps) -> Reply
+    requires { table_length ≤ length table.old }
+    ensures reply { result ≡ reply_to (lent table.old medium.old) call }
+    ensures table { table.new ≡ with_table table.old (next_by (lent table.old medium.old) call).table }
+    ensures medium { medium.new ≡ (next_by (lent table.old medium.old) call).medium }
+{
+    let Some(call) = call else {
+        return dispatch::no_call();
+    };
+    if call.on_servers() {
+        return run_change(call, table, medium);
     }
-    let view = table_words::view_of(table);
-    let reply = dispatch::run_in(&view, steps, medium, number, tenant, subject, amount);
-    count(table, number, reply);
-    count_opened(table, tenant, reply.opened);
+    let reply = dispatch::run_in(call, &table_words::view_of(table), steps, medium);
+    count(table, call, reply);
+    dispatch::count_lookup(&mut table[COUNTERS_OFFSET..TABLE_LENGTH], call, reply);
     reply
 }
 
@@ -74,7 +76,7 @@ pub fn fits(table: &[u32], call: &[u32], reply: &[u32]) -> bool
 }
 
 // Runs the call at the front of its words, stores its reply and answers its refusal number.
-#[tactic(auto, using(dispatch::proofs::Calling::called_small, crate::proofs::Calling::fits_lengths), unfolding(crate::specs::CallWords::after_call, dispatch::specs::ByNumber::call_at))]
+#[tactic(auto, using(dispatch::proofs::Calling::called_small, crate::proofs::Calling::fits_lengths), unfolding(crate::specs::CallWords::after_call, encoding::specs::Encoding::call_from))]
 pub fn call(table: &mut [u32], medium: &mut [u32], call: &[u32], reply: &mut [u32]) -> u32
     ensures number { result ≡ (after_call table.old medium.old call.now reply.old).number }
     ensures table { table.new ≡ (after_call table.old medium.old call.now reply.old).table }
@@ -84,15 +86,7 @@ pub fn call(table: &mut [u32], medium: &mut [u32], call: &[u32], reply: &mut [u3
     if !fits(table, call, reply) {
         return encoding::TOO_SHORT;
     }
-    let told = run(
-        call[NUMBER_OFFSET],
-        call[TENANT_OFFSET],
-        call[SUBJECT_OFFSET],
-        call[AMOUNT_OFFSET],
-        table,
-        medium,
-        &Steps::new(),
-    );
+    let told = run(encoding::call_from(call, 0), table, medium, &Steps::new());
     encoding::store(reply, 0, told);
     told.refusal
 }

@@ -1,18 +1,23 @@
--- `call_words::run` meets its contract: add_server and reweight by the table by value, every other call on the words.
-use native.Mathlib.Omega.{arith}
-use Rattle.call_words.proofs.Calling.{count_fits, counts-there, counted_words}
+-- `call_words::run` meets its contract: what is no call changes nothing, add_server and reweight run on a copy, and every other call
+-- on the words.
+use mathlib.Core.Path.{refl, sym, ◌∙◌}
+use Rattle.dispatch.specs.OneCall.{reply_to, next_by}
+use Rattle.call_words.proofs.Columns.{stored_same}
+use Rattle.call_words.proofs.Calling.{counts-there, counted_words}
 use Rattle.call_words.proofs.run.Goals as goal
 
-pub store_table-requires-clause-count_bound : goal.store_table-requires-clause-count_bound
-store_table-requires-clause-count_bound c =
-    count_fits _ _ _ (c.run_change-reply.ensures.table c.args.tenant) (rw c.to_table-changed.ensures c.view_of.ensures.count)
+pub returns-in_default : goal.returns-in_default
+unfolding reply_to next_by
+returns-in_default c = rw c.in_default.is (record { reply = c.no_call.ensures; table = sym (stored_same c.args.table.now c.requires); medium = refl })
+
+pub returns-then-on_servers : goal.returns-then-on_servers
+returns-then-on_servers c = rw c.in-Some.is (record { reply = c.run_change.ensures.reply; table = c.run_change.ensures.table; medium = c.run_change.ensures.medium })
 
 pub count-requires-clause-server_lt_max_servers : goal.count-requires-clause-server_lt_max_servers
 count-requires-clause-server_lt_max_servers c =
-    let a = c.args in
-    counts-there a.table.now a.medium.now a.number a.tenant a.subject a.amount c.requires _ (rw c.view_of-view.ensures.table at c.run_in-reply.ensures.reply)
+    counts-there c.args.table.now c.args.medium.now c.in-Some.call c.requires _ (rw c.view_of.ensures.table at c.run_in-reply.ensures.reply)
 
 pub returns-clause-table : goal.returns-clause-table
 returns-clause-table c =
-    let a = c.args in
-    counted_words a.table.now a.medium.now a.number a.tenant a.subject a.amount c.requires _ (rw c.view_of-view.ensures.table at c.run_in-reply.ensures.reply) (λ e. omega (arith, c.if-number-lt-WRITE.false)) (λ e. omega (arith, c.if-number-lt-WRITE.false)) _ _ c.count.ensures c.count_opened.ensures
+    rw c.in-Some.is
+    (counted_words c.args.table.now c.args.medium.now c.in-Some.call c.requires _ (rw c.view_of.ensures.table at c.run_in-reply.ensures.reply) (sym c.on_servers.ensures ∙ c.if-on_servers.false) _ _ c.count.ensures c.count_lookup.ensures)
