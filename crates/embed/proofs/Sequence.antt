@@ -16,10 +16,11 @@ use Rattle.table.specs.declared.Table.{Table}
 use Rattle.table_words.specs.Words.{table_length, table_from, with_table}
 use Rattle.table_words.proofs.Lent.{stored-lent}
 use Rattle.servers.specs.Servers.{start_table}
-use Rattle.history.specs.Call.{Call}
+use Rattle.calls.specs.declared.Call.{Call}
+use Rattle.history.specs.Call as list
 use Rattle.history.specs.Machine.{State, turned, after_turns, after, begin}
-use Rattle.encoding.specs.Encoding.{call_length}
-use Rattle.dispatch.specs.ByNumber.{call_at, next_by}
+use Rattle.encoding.specs.Encoding.{call_length, call_at}
+use Rattle.dispatch.specs.OneCall.{next_by}
 use Rattle.call_words.specs.CallWords.{lent, fits_call, after_call}
 use Rattle.servers.proofs.Starts.{start-arrays}
 use Rattle.call_words.proofs.Kept.{length-stored, lent-next}
@@ -53,7 +54,7 @@ module _ (R : Runs) (call : List ℕ) (l : table_length ≤ length R.table) wher
       let d = refused e in
       rw e ((λ i. record { table = ap table_from d.0 i; medium = d.1 i }), omega (arith, ap length d.0)))
 
-after-joined : (S : State) (o : Option Call) (calls : List Call) → after S (joined o calls) ≡ after (next_by S o) calls
+after-joined : (S : State) (o : Option Call) (calls : List list.Call) → after S (joined o calls) ≡ after (next_by S o) calls
 unfolding turned after_turns joined next_by
 after-joined S None calls = refl
 after-joined S (Some c) calls = refl

@@ -1,9 +1,10 @@
 -- Calls made one after another: each on the table and the medium as the call before left them, with words of its own for its
 -- reply. They are a list of calls, so that what is shown of every list of calls holds of them.
 use Rattle.std.specs.Prelude.{ℕ, cond, List, [], ◌∷◌, length, replicate, leb, Option, None, Some}
-use Rattle.history.specs.Call.{Call}
-use Rattle.encoding.specs.Encoding.{call_length, reply_length}
-use Rattle.dispatch.specs.ByNumber.{call_at}
+use Rattle.calls.specs.declared.Call.{Call}
+use Rattle.history.specs.Call as list
+use Rattle.encoding.specs.Encoding.{call_length, reply_length, call_at}
+use Rattle.dispatch.specs.OneCall.{in_list}
 use Rattle.call_words.specs.CallWords.{after_call}
 
 -- table and medium as words
@@ -26,10 +27,10 @@ unfoldable pub call_in : List ℕ → Option Call
 call_in call = cond (leb call_length (length call)) (call_at call 0) None
 
 -- the calls that they are, one after another
-unfoldable pub joined : Option Call → List Call → List Call
+unfoldable pub joined : Option Call → List list.Call → List list.Call
 joined None calls = calls
-joined (Some c) calls = c ∷ calls
+joined (Some c) calls = in_list c ∷ calls
 
-unfoldable pub calls_of : List (List ℕ) → List Call
+unfoldable pub calls_of : List (List ℕ) → List list.Call
 calls_of [] = []
 calls_of (call ∷ calls) = joined (call_in call) (calls_of calls)

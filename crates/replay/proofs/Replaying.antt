@@ -4,7 +4,7 @@ use Prim.Native.Nat.{ℕ, zero, suc, ◌+◌, ◌*◌, ◌≤◌, ◌<◌}
 use mathlib.Core.Path.{◌≡◌, refl, sym, ap, ap₂, ◌∙◌, subst}
 use mathlib.Core.Logic.{◌≢◌}
 use mathlib.Core.List.{List, [], ◌∷◌}
-use Rattle.std.specs.Prelude.{Option, None, Some, Result, Ok, Err}
+use Rattle.std.specs.Prelude.{Option, None, Some}
 use native.Mathlib.Numerals.{add-one}
 use native.Mathlib.Omega.{arith}
 use lib.ListN.{length}
@@ -23,17 +23,16 @@ use Rattle.replies.specs.declared.Reply.{Reply}
 use Rattle.replies.proofs.Refusals.{settle-yes, settle-no}
 use Rattle.server_rows.specs.ServerRows.{start_rows}
 use Rattle.servers.specs.Servers.{start_table}
-use Rattle.servers.specs.Servers.{start_reply}
-use Rattle.replies.specs.declared.Refusal.{Refusal}
-use Rattle.replies.specs.Reply.{reply_of_check}
-use Rattle.servers.proofs.Starts.{start-arrays, start-refused}
-use Rattle.history.specs.Call.{Call, compared}
+use Rattle.servers.proofs.Starts.{start-arrays}
+use Rattle.calls.specs.declared.Call.{Call}
+use Rattle.history.specs.Call.{compared}
+use Rattle.history.specs.Call as list
 use Rattle.history.specs.Machine.{State, turned, after_turns, after, begin, start_state}
 use Rattle.history.specs.Ledger.{fresh_ledger, ledger_after}
 use Rattle.history.proofs.Unaltered.{after-calls}
 use Rattle.history.proofs.Run.{begin-agrees, step, run-calls}
-use Rattle.encoding.specs.Encoding.{call_length, number_offset, tenant_offset, subject_offset, amount_offset, reply_length, room_for, with_reply_at, with_reply}
-use Rattle.dispatch.specs.ByNumber.{call_of, call_at, reply_to, next_by}
+use Rattle.encoding.specs.Encoding.{reply_length, room_for, call_at, with_reply}
+use Rattle.dispatch.specs.OneCall.{in_list, reply_to, next_by}
 use Rattle.encoding.proofs.Storing.{Stored, length-with_reply, stored_here, stored-below}
 use Rattle.call_words.specs.CallWords.{lent}
 use Rattle.call_words.proofs.Columns.{stored_same}
@@ -41,10 +40,10 @@ use Rattle.call_words.proofs.Kept.{call-arrays, length-stored, stored-again, len
 use Rattle.replay.specs.Replay.{appended, calls_below, ledger_reply_to, with_replies, runs, reply_at, ledger_reply_at, LedgerWords}
 
 -- one call more
-appended-after : (S : State) (calls : List Call) (o : Option Call) → after S (appended calls o) ≡ next_by (after S calls) o
+appended-after : (S : State) (calls : List list.Call) (o : Option Call) → after S (appended calls o) ≡ next_by (after S calls) o
 unfolding appended next_by turned after_turns
 appended-after S calls None = refl
-appended-after S calls (Some c) = after-calls calls (c ∷ []) S
+appended-after S calls (Some c) = after-calls calls (in_list c ∷ []) S
 
 after_more : (S : State) (calls : List ℕ) (i : ℕ) → after S (calls_below calls (i + 1)) ≡ next_by (after S (calls_below calls i)) (call_at calls i)
 unfolding calls_below
@@ -71,12 +70,12 @@ module _ (f : ℕ → Reply) (words : List ℕ) where
 
 -- on blank words the replies are the plain ledger's
 module _ (capacity salt : ℕ) (z : first_of (start_rows capacity salt) ≡ 0) (m : List ℕ) (b : (a : ℕ) → a < length m → nth m a ≡ blank) where
-  ledger-alike : (calls : List Call) (o : Option Call) → compared (reply_to (after (begin capacity salt (length m)) calls) o) ≡ ledger_reply_to (ledger_after (fresh_ledger capacity salt (length m)) calls) o
+  ledger-alike : (calls : List list.Call) (o : Option Call) → compared (reply_to (after (begin capacity salt (length m)) calls) o) ≡ ledger_reply_to (ledger_after (fresh_ledger capacity salt (length m)) calls) o
   unfolding reply_to ledger_reply_to compared
   ledger-alike calls None = refl
   ledger-alike calls (Some c) =
       let r = run-calls calls (begin capacity salt (length m)) (fresh_ledger capacity salt (length m)) (begin-agrees capacity salt (length m) z) in
-      (step _ _ r.agrees c).alike
+      (step _ _ r.agrees (in_list c)).alike
 
   alike_at : (calls : List ℕ) (i : ℕ) → compared (reply_at (start_state capacity salt m) calls i) ≡ ledger_reply_at capacity salt (length m) calls i
   unfolding reply_at ledger_reply_at begin
@@ -116,20 +115,20 @@ module _ (words m calls replies : List ℕ) (l : table_length ≤ length words) 
   unfolding turned after_turns calls_below with_replies
   none-run = record { state = refl; table = sym (stored_same words l); stored = refl; same_table = refl; same_medium = refl; same_replies = refl }
 
-  pub one-run : (i : ℕ) (words₁ words₂ medium medium' replies₁ replies₂ : List ℕ) (r : Reply)
+  pub one-run : (i : ℕ) (words₁ words₂ medium medium' replies₁ replies₂ : List ℕ) (o : Option Call) (r : Reply)
       → Replayed words m calls replies i words₁ medium replies₁
-      → r ≡ reply_to (lent words₁ medium) (call_at calls i)
-      → words₂ ≡ with_table words₁ (next_by (lent words₁ medium) (call_at calls i)).table
-      → medium' ≡ (next_by (lent words₁ medium) (call_at calls i)).medium
+      → o ≡ call_at calls i
+      → r ≡ reply_to (lent words₁ medium) o
+      → words₂ ≡ with_table words₁ (next_by (lent words₁ medium) o).table
+      → medium' ≡ (next_by (lent words₁ medium) o).medium
       → length medium' ≡ length medium → replies₂ ≡ with_reply replies₁ i r
       → Replayed words m calls replies (i + 1) words₂ medium' replies₂
   unfolding reply_at
-  one-run i words₁ words₂ medium medium' replies₁ replies₂ r d e f g h s =
-      let o = call_at calls i in
+  one-run i words₁ words₂ medium medium' replies₁ replies₂ o r d here e f g h s =
       let T = after S (calls_below calls i) in
       let T' = after S (calls_below calls (i + 1)) in
       let long : table_length ≤ length words₁ = omega (arith, d.same_table) in
-      let next : next_by (lent words₁ medium) o ≡ T' = ap (λ (U : State). next_by U o) d.state ∙ sym (after_more S calls i) in
+      let next : next_by (lent words₁ medium) o ≡ T' = ap₂ next_by d.state here ∙ sym (after_more S calls i) in
       let kept = lent-next words₁ medium words₂ medium' o long f g in
       let w : words₂ ≡ with_table words T'.table =
       f ∙ ap (λ (U : State). with_table words₁ U.table) next ∙ ap (λ (v : List ℕ). with_table v T'.table) d.table ∙ stored-again words T.table T'.table l (after-arrays i)
@@ -139,25 +138,12 @@ module _ (words m calls replies : List ℕ) (l : table_length ≤ length words) 
         table = w;
         stored =
             s
-            ∙ ap₂ (λ (v : List ℕ) (x : Reply). with_reply v i x) d.stored (e ∙ ap (λ (U : State). reply_to U o) d.state)
+            ∙ ap₂ (λ (v : List ℕ) (x : Reply). with_reply v i x) d.stored (e ∙ ap₂ reply_to d.state here)
             ∙ sym (replies-more (reply_at S calls) i replies);
         same_table = kept.1 ∙ d.same_table;
         same_medium = h ∙ d.same_medium;
         same_replies = ap length s ∙ length-with_reply replies₁ i r ∙ d.same_replies;
       }
-
-  -- the same by the words of call i
-  pub one_more : (i : ℕ) (words₁ words₂ medium medium' replies₁ replies₂ : List ℕ) (r : Reply)
-      → Replayed words m calls replies i words₁ medium replies₁
-      → let at = call_length * i in
-      let o = call_of (nth calls (at + number_offset)) (nth calls (at + tenant_offset)) (nth calls (at + subject_offset)) (nth calls (at + amount_offset)) in
-      r ≡ reply_to (lent words₁ medium) o
-      → words₂ ≡ with_table words₁ (next_by (lent words₁ medium) o).table
-      → medium' ≡ (next_by (lent words₁ medium) o).medium
-      → length medium' ≡ length medium → replies₂ ≡ with_reply_at replies₁ at r
-      → Replayed words m calls replies (i + 1) words₂ medium' replies₂
-  unfolding call_at
-  one_more i words₁ words₂ medium medium' replies₁ replies₂ r d e f g h s = one-run i words₁ words₂ medium medium' replies₁ replies₂ r d e f g h s
 
 -- what `replay` ensures where it answers n
 abbrev pub Done : ℕ → ℕ → List ℕ → List ℕ → List ℕ → ℕ → List ℕ → List ℕ → Type 0

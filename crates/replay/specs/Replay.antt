@@ -5,26 +5,28 @@ use Rattle.medium.specs.Word.{blank}
 use Rattle.replies.specs.Refusal.{settle}
 use Rattle.replies.specs.declared.Reply.{Reply}
 use Rattle.server_rows.specs.ServerRows.{start_rows}
-use Rattle.history.specs.Call.{Call, Compared}
+use Rattle.calls.specs.declared.Call.{Call}
+use Rattle.history.specs.Call.{Compared}
+use Rattle.history.specs.Call as list
 use Rattle.history.specs.Machine.{State, after}
 use Rattle.history.specs.Ledger.{Ledger, fresh_ledger, told, enter, ledger_after}
-use Rattle.encoding.specs.Encoding.{refusal_offset, server_offset, value_offset, opened_offset, room_for, reply_word, with_reply}
-use Rattle.dispatch.specs.ByNumber.{call_at, no_call_number, reply_to}
+use Rattle.encoding.specs.Encoding.{refusal_offset, server_offset, value_offset, opened_offset, room_for, reply_word, call_at, with_reply}
+use Rattle.dispatch.specs.OneCall.{in_list, no_call_number, reply_to}
 
 -- a list with one call more, where it is a call
-unfoldable pub appended : List Call → Option Call → List Call
+unfoldable pub appended : List list.Call → Option Call → List list.Call
 appended calls None = calls
-appended calls (Some c) = calls ++ (c ∷ [])
+appended calls (Some c) = calls ++ (in_list c ∷ [])
 
 -- the calls among the first n encoded ones
-unfoldable pub calls_below : List ℕ → ℕ → List Call
+unfoldable pub calls_below : List ℕ → ℕ → List list.Call
 calls_below words zero = []
 calls_below words (suc n) = appended (calls_below words n) (call_at words n)
 
 -- the ledger's reply to a call, and to what is no call
 unfoldable pub ledger_reply_to : Ledger → Option Call → Compared
 ledger_reply_to L None = told no_call_number 0 0 0
-ledger_reply_to L (Some c) = (enter L c).reply
+ledger_reply_to L (Some c) = (enter L (in_list c)).reply
 
 -- the words with the first n replies, and the rest as lent
 unfoldable pub with_replies : (ℕ → Reply) → ℕ → List ℕ → List ℕ

@@ -11,7 +11,7 @@ ghost use Rattle.replay.specs.Replay.{calls_below, with_replies, runs, reply_at,
 ghost use Rattle.replay.specs.Lent.{resumes};
 
 use draws::Steps;
-use encoding::{AMOUNT_OFFSET, CALL_LENGTH, NUMBER_OFFSET, SUBJECT_OFFSET, TENANT_OFFSET};
+use encoding::CALL_LENGTH;
 use table_words::TABLE_LENGTH;
 
 // Runs the first `n` encoded calls on a table lent as words. A call and its reply have as many words, so both begin at the same
@@ -34,15 +34,8 @@ fn run_calls(
 {
     for i in 0..n {
         let at = CALL_LENGTH * i;
-        let reply = call_words::run(
-            calls[at + NUMBER_OFFSET],
-            calls[at + TENANT_OFFSET],
-            calls[at + SUBJECT_OFFSET],
-            calls[at + AMOUNT_OFFSET],
-            table,
-            medium,
-            steps,
-        );
+        let call = encoding::call_from(calls, at);
+        let reply = call_words::run(call, table, medium, steps);
         encoding::store(replies, at, reply);
     }
 }

@@ -3,41 +3,34 @@
 
 ghost use Rattle.std.specs.Prelude.{◌≡◌, true, ◌≤◌, length};
 ghost use Rattle.table_words.specs.Words.{table_length, with_table};
-ghost use Rattle.dispatch.specs.BySome.{some_reply, some_next};
+ghost use Rattle.dispatch.specs.SomeBurns.{some_reply, some_next};
 ghost use Rattle.call_words.specs.CallWords.{lent};
 ghost use Rattle.some_words.specs.SomeWords.{after_some};
 
+use calls::Call;
 use draws::Steps;
-use encoding::{AMOUNT_OFFSET, BURNS_OFFSET, NUMBER_OFFSET, SUBJECT_OFFSET, TENANT_OFFSET};
+use encoding::BURNS_OFFSET;
 use replies::Reply;
 
 // Runs the call. The entry of a write is counted as used where no burns are left over.
-fn run(
-    number: u32,
-    tenant: u32,
-    id: u32,
-    value: u32,
-    burns: usize,
-    table: &mut [u32],
-    medium: &mut [u32],
-) -> Reply
+fn run(call: Option<Call>, burns: usize, table: &mut [u32], medium: &mut [u32]) -> Reply
     requires { table_length ≤ length table.old }
-    ensures reply { result ≡ some_reply (lent table.old medium.old) number tenant id value }
-    ensures table { table.new
-        ≡ with_table table.old (some_next (lent table.old medium.old) number tenant id value burns).table }
-    ensures medium { medium.new ≡ (some_next (lent table.old medium.old) number tenant id value burns).medium }
+    ensures reply { result ≡ some_reply (lent table.old medium.old) call }
+    ensures table { table.new ≡ with_table table.old (some_next (lent table.old medium.old) call burns).table }
+    ensures medium { medium.new ≡ (some_next (lent table.old medium.old) call burns).medium }
 {
     let view = table_words::view_of(table);
-    let steps = Steps::new();
-    let reply = dispatch::run_some(number, tenant, id, value, burns, &view, &steps, medium);
-    if writing::is_whole(reply.invalidated, burns) {
-        call_words::count(table, number, reply);
+    let reply = dispatch::run_some(call, burns, &view, &Steps::new(), medium);
+    if let Some(call) = call {
+        if writing::is_whole(reply.invalidated, burns) {
+            call_words::count(table, call, reply);
+        }
     }
     reply
 }
 
 // Runs the write or the delete at the front of its words with the burns that they say, stores its reply and answers its refusal number.
-#[tactic(auto, using(dispatch::proofs::Some::some_small, call_words::proofs::Calling::fits_lengths), unfolding(crate::specs::SomeWords::after_some))]
+#[tactic(auto, using(dispatch::proofs::Some::some_small, call_words::proofs::Calling::fits_lengths), unfolding(crate::specs::SomeWords::after_some, encoding::specs::Encoding::call_from))]
 pub fn call_some(table: &mut [u32], medium: &mut [u32], call: &[u32], reply: &mut [u32]) -> u32
     ensures number { result ≡ (after_some table.old medium.old call.now reply.old).number }
     ensures table { table.new ≡ (after_some table.old medium.old call.now reply.old).table }
@@ -48,15 +41,7 @@ pub fn call_some(table: &mut [u32], medium: &mut [u32], call: &[u32], reply: &mu
         return encoding::TOO_SHORT;
     }
     let burns = call[BURNS_OFFSET] as usize;
-    let told = run(
-        call[NUMBER_OFFSET],
-        call[TENANT_OFFSET],
-        call[SUBJECT_OFFSET],
-        call[AMOUNT_OFFSET],
-        burns,
-        table,
-        medium,
-    );
+    let told = run(encoding::call_from(call, 0), burns, table, medium);
     encoding::store(reply, 0, told);
     told.refusal
 }

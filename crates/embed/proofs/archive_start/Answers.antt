@@ -1,6 +1,5 @@
 -- `embed::archive_start` meets its contract: a start, or the table of zeros where it is refused.
-use Prim.Native.Nat.{ℕ}
-use mathlib.Core.Path.{◌≡◌, sym, ap, ◌∙◌}
+use mathlib.Core.Path.{sym, ap, ◌∙◌}
 use borrow.Author.Tests.{le-leb}
 use Rattle.std.specs.Prelude.{Result}
 use Rattle.table.specs.declared.Table.{Table}

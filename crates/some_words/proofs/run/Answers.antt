@@ -1,21 +1,27 @@
--- `some_words::run` meets its contract: the call on the lent table, and the table by the test whether no burn is left over.
-use mathlib.Core.Path.{◌∙◌}
+-- `some_words::run` meets its contract: what is no call leaves the words, and a call the table by the test whether no burn is left over.
+use mathlib.Core.Path.{sym, ◌∙◌}
 use mathlib.Core.Bool.{true, false}
-use Rattle.some_words.proofs.Counted.{counts_some, counted-some}
+use Rattle.some_words.proofs.Counted.{no-call, counts_some, counted-some}
 use Rattle.some_words.proofs.run.Goals as goal
 
 pub count-requires-clause-server_lt_max_servers : goal.count-requires-clause-server_lt_max_servers
 count-requires-clause-server_lt_max_servers c =
     let a = c.args in
-    counts_some a.table.now a.medium.now a.number a.tenant a.id a.value c.requires _ (rw c.view_of-view.ensures.table at c.run_some-reply.ensures.reply)
+    counts_some a.table.now a.medium.now c.in-Some.call c.requires _ (rw (c.view_of-view.ensures.table, c.in-Some.is) at c.run_some-reply.ensures.reply)
 
 pub returns-then-is_whole-clause-table : goal.returns-then-is_whole-clause-table
 returns-then-is_whole-clause-table c =
     let a = c.args in
-    c.count.ensures
-    ∙ counted-some a.table.now a.medium.now a.number a.tenant a.id a.value c.requires _ (rw c.view_of-view.ensures.table at c.run_some-reply.ensures.reply) a.burns true (rw c.if-is_whole.true at c.is_whole.ensures)
+    let r = rw (c.view_of-view.ensures.table, c.in-Some.is) at c.run_some-reply.ensures.reply in
+    rw c.in-Some.is
+    (c.count.ensures
+    ∙ counted-some a.table.now a.medium.now c.in-Some.call c.requires _ r a.burns true (sym c.if-is_whole.true ∙ c.is_whole.ensures))
 
 pub returns-else-is_whole-clause-table : goal.returns-else-is_whole-clause-table
 returns-else-is_whole-clause-table c =
     let a = c.args in
-    counted-some a.table.now a.medium.now a.number a.tenant a.id a.value c.requires _ (rw c.view_of-view.ensures.table at c.run_some-reply.ensures.reply) a.burns false (rw c.if-is_whole.false at c.is_whole.ensures)
+    let r = rw (c.view_of-view.ensures.table, c.in-Some.is) at c.run_some-reply.ensures.reply in
+    rw c.in-Some.is (counted-some a.table.now a.medium.now c.in-Some.call c.requires _ r a.burns false (sym c.if-is_whole.false ∙ c.is_whole.ensures))
+
+pub returns-in_default-clause-table : goal.returns-in_default-clause-table
+returns-in_default-clause-table c = no-call c.args.table.now c.args.medium.now c.requires c.args.call c.in_default.is c.args.burns
