@@ -66,9 +66,7 @@ impl Archive {
     // Decodes all the words, and answers refusal and count. Where they are refused, the table is one of all zeros.
     pub fn decode(&mut self) -> Answer<'static> {
         let (table, words) = self.parts();
-        let decoded = image_reader::decode(words);
-        let refusal = replies::check_number(&decoded);
-        *table = decoded.unwrap_or(table::empty(0, 0));
-        Answer::Counted(refusal, table.count)
+        let decoded = image_reader::decode_into(words, table);
+        Answer::Counted(replies::check_number(&decoded), table.count)
     }
 }
