@@ -12,7 +12,7 @@ use Rattle.lists.specs.Below.{all_below, set_below}
 use Rattle.lists.proofs.Tests.{by_bool, true-not-false, and_l, and_r, and_i}
 use Rattle.lists.proofs.Below.{all_below-out, set_below-more}
 use Rattle.table.specs.declared.Table.{Table}
-use Rattle.table.specs.Parts.{table_by, with_counters, empty}
+use Rattle.table.specs.Parts.{shape_of, table_by, with_counters, empty}
 use Rattle.image.specs.Layout.{weight_place, used_place, numerator_place, denominator_place, capacity_place, salt_place, part_at}
 use Rattle.image.specs.Decoding.{tag_at, content_at, count_in, table_in, head_tagged, server_tagged, counter_tagged, each_tagged}
 use Rattle.image_reader.specs.Servers.{with_servers}
@@ -25,8 +25,8 @@ module _ {A : Type 0} (b : Bool) (x : A) where
   pub none_if : None ≡ cond b (Some x) None → b ≡ false
   none_if e = by_bool b (λ t. let h : None ≡ Some x = rw t at e in absurd cc) (λ f. f)
 
--- one of a run of words that has another tag, or one of the tests of a run
-pub one_fails : (b whole : Bool) → (whole ≡ true → b ≡ true) → b ≡ false → whole ≡ false
+-- one test of a whole fails, or one of a run
+one_fails : (b whole : Bool) → (whole ≡ true → b ≡ true) → b ≡ false → whole ≡ false
 one_fails b whole h e = by_bool whole (λ t. absurd (true-not-false (h t) e)) (λ f. f)
 
 pub fails_below : (p : ℕ → Bool) (n k : ℕ) → k < n → p k ≡ false → all_below p n ≡ false
@@ -63,16 +63,8 @@ pub server_read : (words : List ℕ) (k : ℕ) (t s : Table) (weight used numera
     → used ≡ content_at words (part_at k + used_place)
     → numerator ≡ content_at words (part_at k + numerator_place)
     → denominator ≡ content_at words (part_at k + denominator_place)
-    → ◌≡◌ {A = Table} (record {
-      capacity = s.capacity;
-      salt = s.salt;
-      count = s.count;
-      weights = set s.weights k weight;
-      used = set s.used k used;
-      numerators = set s.numerators k numerator;
-      denominators = set s.denominators k denominator;
-      counters = s.counters;
-    }) (with_servers words (k + 1) t)
+    → table_by (shape_of s) (set s.weights k weight) (set s.used k used) (set s.numerators k numerator) (set s.denominators k denominator) s.counters
+    ≡ with_servers words (k + 1) t
 server_read words k t s weight used numerator denominator e a b c d =
     rw (
       e,
