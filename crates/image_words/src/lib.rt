@@ -39,7 +39,8 @@ pub fn decode(image: &[u32], table: &mut [u32]) -> u32
     if table.len() < TABLE_LENGTH {
         return TOO_SHORT;
     }
-    let decoded = image_reader::decode(image);
-    table_words::store_table(table, &decoded.unwrap_or(table::empty(0, 0)));
+    let mut read = table::empty(0, 0);
+    let decoded = image_reader::decode_into(image, &mut read);
+    table_words::store_table(table, &read);
     replies::check_reply(&decoded).refusal
 }

@@ -2,58 +2,30 @@
 ghost use Rattle.std.specs.Prelude.{◌<◌};
 
 use batch_answer::Batch;
-use std::io;
-use std::io::Write;
-use table::Table;
+use vectors_calls::{Answer, Archive, Command};
 
-// The refusal of tenant 0's batch of 256 times id 2, or of one more.
-fn longest<W: Write>(
-    out: &mut W,
-    table: &mut Table,
-    medium: &[u32],
-    over: bool,
-    text: &[u8],
-) -> io::Result<()> {
-    let ids: [u32; 257] = [2; 257];
-    let n = if over { 257 } else { 256 };
-    let batch = batch::lookup_batch(table, medium, 0, &ids[..n]);
-    vectors_calls::print_number(out, text, u64::from(batch.refusal))
-}
-
-// 1 is the refusal of the whole batch, 2 its mounts, 4 the refusal at a position, 5 the position that is found at this place.
-fn part(batch: Batch, letter: u8, i: usize) -> u64
+// 2 is the mounts, 3 refusal, value and opened count at a position, 4 the refusal at it, 5 the position that is found at this place;
+// the others are the refusal of the whole batch.
+fn part(batch: &Batch, letter: u8, i: usize) -> Answer<'static>
     requires { i < 256 }
 {
     match letter {
-        b'1' => u64::from(batch.refusal),
-        b'2' => batch.mounts as u64,
-        b'4' => u64::from(batch.refusals[i]),
-        _ => u64::from(batch.order[i]),
+        b'2' => Answer::Number(batch.mounts as u64),
+        b'3' => Answer::Three(batch.refusals[i], batch.values[i], batch.opened[i]),
+        b'4' => Answer::Number(u64::from(batch.refusals[i])),
+        b'5' => Answer::Number(u64::from(batch.order[i])),
+        _ => Answer::Number(u64::from(batch.refusal)),
     }
 }
 
-// 3 is refusal, value and opened count at a position; 6 and 7 are the batches of 256 and of 257 ids.
-pub fn show<W: Write>(
-    out: &mut W,
-    table: &mut Table,
-    medium: &[u32],
-    letter: u8,
-    numbers: [u32; 8],
-    text: &[u8],
-) -> io::Result<()> {
-    if letter >= b'6' {
-        return longest(out, table, medium, letter == b'7', text);
-    }
-    let i = (numbers[5] % 256) as usize;
-    let batch = batch::lookup_batch(table, medium, numbers[6], &numbers[..5]);
-    if letter != b'3' {
-        return vectors_calls::print_number(out, text, part(batch, letter, i));
-    }
-    vectors_calls::print_three(
-        out,
-        text,
-        batch.refusals[i],
-        batch.values[i],
-        batch.opened[i],
-    )
+// 1 to 5 are for the batch of the ids; 6 is tenant 0's batch of 256 times id 2, and 7 that of one more.
+pub fn call(archive: &mut Archive, command: Command) -> Answer<'static> {
+    let numbers = command.numbers;
+    let (table, medium) = archive.parts();
+    let batch = match command.letter {
+        b'6' => batch::lookup_batch(table, medium, 0, &[2; 256]),
+        b'7' => batch::lookup_batch(table, medium, 0, &[2; 257]),
+        _ => batch::lookup_batch(table, medium, numbers[6], &numbers[..5]),
+    };
+    part(&batch, command.letter, (numbers[5] % 256) as usize)
 }

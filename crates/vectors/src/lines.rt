@@ -1,12 +1,13 @@
-// The lines of the cases: where a line's call begins, its letter, its numbers, and where the next line begins.
+// The lines of the cases: a case's text, its command, and where the next line begins.
 ghost use Rattle.std.specs.Prelude.{◌<◌, ◌≤◌, length};
 
+use vectors_calls::Command;
+
 #[derive(Clone, Copy)]
-pub struct Case {
-    pub call: usize,
+pub struct Case<'a> {
+    pub text: &'a [u8],
+    pub command: Command,
     pub next: usize,
-    pub letter: u8,
-    pub numbers: [u32; 8],
 }
 
 // The position after the next such byte, or the end.
@@ -39,24 +40,30 @@ fn numbers(input: &[u8]) -> [u32; 8] {
     values
 }
 
-// The case whose line begins at a position.
-pub fn read(input: &[u8], at: usize) -> Case
+// The case whose line begins at a position. Where no bar follows, its command has the letter 0.
+pub fn read(input: &[u8], at: usize) -> Case<'_>
     requires { at < length input.now }
-    ensures { (at < result.call) × (at < result.next) × (result.call ≤ length input.now) }
+    ensures { at < result.next }
 {
     let call = after(input, at, b'|');
+    let text = &input[at..call - 1];
     if call == input.len() {
-        return Case {
-            call,
-            next: call,
+        let command = Command {
             letter: 0,
             numbers: [0; 8],
         };
+        return Case {
+            text,
+            command,
+            next: call,
+        };
     }
     Case {
-        call,
+        text,
+        command: Command {
+            letter: input[call],
+            numbers: numbers(&input[call + 1..]),
+        },
         next: after(input, call, b'\n'),
-        letter: input[call],
-        numbers: numbers(&input[call + 1..]),
     }
 }

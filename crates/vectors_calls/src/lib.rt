@@ -1,13 +1,21 @@
-// The calls and the published method on plain numbers, each run by a letter and its numbers, with what it answers printed after
-// a text. The program vectors runs its cases by them.
+// The calls and the published method on plain numbers: each runs a command and has an answer, which is printed after a text. The
+// program vectors runs its cases by them.
 #![tactic(auto)]
 
+mod answer;
+mod archive;
 mod calls;
 mod crashes;
-mod images;
 mod method;
-mod print;
 
-pub use calls::{run_call, start};
-pub use method::show_draw;
-pub use print::{print_number, print_three};
+pub use answer::{Answer, print};
+pub use archive::Archive;
+pub use calls::call;
+pub use method::draw;
+
+// What a case runs: a letter that names it, and the numbers that it takes.
+#[derive(Clone, Copy)]
+pub struct Command {
+    pub letter: u8,
+    pub numbers: [u32; 8],
+}

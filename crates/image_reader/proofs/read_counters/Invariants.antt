@@ -2,8 +2,6 @@
 use mathlib.Core.Path.{◌≡◌}
 use mathlib.Core.Bool.{true}
 use Prim.Native.Nat.{◌+◌}
-use lib.ListN.{replicate}
-use Rattle.limits.specs.Limits.{tenants}
 use Rattle.lists.specs.Below.{all_below, set_below}
 use Rattle.image.specs.Decoding.{content_at, counter_tagged}
 use Rattle.image_reader.proofs.read_counters.Given as goal
@@ -11,5 +9,5 @@ use Rattle.image_reader.proofs.read_counters.Given as goal
 abbrev pub invariant-loop-i : goal.invariant-loop-i
 invariant-loop-i l = record {
   tagged : all_below (counter_tagged l.image l.from) l.i ≡ true;
-  read : l.counters ≡ set_below (λ i. content_at l.image (l.from + i)) l.i (replicate tenants 0);
+  read : l.counters ≡ set_below (λ i. content_at l.image (l.from + i)) l.i l.initial.counters;
 }

@@ -1,0 +1,13 @@
+-- `image_reader::read_servers` meets its contract. The invariant: the words of the servers passed have their tags and are read.
+use mathlib.Core.Path.{◌≡◌}
+use mathlib.Core.Bool.{true}
+use Rattle.lists.specs.Below.{all_below}
+use Rattle.image.specs.Decoding.{server_tagged}
+use Rattle.image_reader.specs.Servers.{with_servers}
+use Rattle.image_reader.proofs.read_servers.Given as goal
+
+abbrev pub invariant-loop-k : goal.invariant-loop-k
+invariant-loop-k l = record {
+  tagged : all_below (server_tagged l.image) l.k ≡ true;
+  read : l.table ≡ with_servers l.image l.k l.initial.table;
+}
