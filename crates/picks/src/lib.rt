@@ -99,7 +99,7 @@ impl Picker<'_> {
                 return from + self.highest_of(id, from);
             }
         }
-        placement::write_server(self.weights, self.steps, rest, self.salt, id)
+        placement::write_server(&self.weights[..rest], self.steps, self.salt, id)
     }
 }
 
@@ -169,7 +169,7 @@ impl Weights<'_> {
     {
         let steps = Steps::new();
         store_each(ids, servers, |id| {
-            placement::write_server(self.all, &steps, self.all.len(), salt, id) as u32
+            placement::write_server(self.all, &steps, salt, id) as u32
         });
     }
 }

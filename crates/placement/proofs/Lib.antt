@@ -1,4 +1,5 @@
 mod Product
 pub mod Fractions
+pub mod Fronts
 pub mod Rules
 pub mod Shares

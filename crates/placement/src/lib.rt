@@ -2,7 +2,7 @@
 // crate knows no table and no medium.
 #![tactic(auto)]
 
-ghost use Rattle.std.specs.Prelude.{◌≡◌, true, ◌&&◌, ℕ, ◌<◌, leb, ltb};
+ghost use Rattle.std.specs.Prelude.{◌≡◌, true, ◌&&◌, ℕ, ◌<◌, leb, ltb, length};
 ghost use Rattle.limits.specs.Limits.{max_servers};
 ghost use Rattle.lists.specs.Below.{nth, total};
 ghost use Rattle.draws.specs.Draw.{modulus, draw_of};
@@ -75,23 +75,23 @@ pub fn takes(f: Fraction, steps: &Steps, salt: u32, id: u32, server: usize) -> b
     exceeds(f, steps.draw(salt, id, server))
 }
 
-// The sum of the first `count` weights.
-pub fn sum_weights(weights: &[u32], count: usize) -> u32
-    requires { Bounded weights.now count }
-    ensures { result ≡ total (nth weights.now) count }
+// The sum of the weights.
+pub fn sum_weights(weights: &[u32]) -> u32
+    requires { Bounded weights.now (length weights.now) }
+    ensures { result ≡ total (nth weights.now) (length weights.now) }
 {
-    weights[..count].iter().sum()
+    weights.iter().sum()
 }
 
-// The write server of an id under a salt among `count` servers: from the highest down, the first whose WriteP exceeds its draw.
-// Server 0 takes what no other does, so that the loop ends above it. A weight of 0 needs no case of its own, since a fraction of
-// 0 exceeds no draw.
-pub fn write_server(weights: &[u32], steps: &Steps, count: usize, salt: u32, id: u32) -> usize
-    requires bounded { Bounded weights.now count }
-    ensures { result ≡ write_server (nth weights.now) count salt id }
+// The write server of an id under a salt among the servers of these weights: from the highest down, the first whose WriteP exceeds
+// its draw. Server 0 takes what no other does, so that the loop ends above it. A weight of 0 needs no case of its own, since a
+// fraction of 0 exceeds no draw.
+pub fn write_server(weights: &[u32], steps: &Steps, salt: u32, id: u32) -> usize
+    requires { Bounded weights.now (length weights.now) }
+    ensures { result ≡ write_server (nth weights.now) (length weights.now) salt id }
 {
-    let mut sum = sum_weights(weights, count);
-    for k in (1..count).rev() {
+    let mut sum = sum_weights(weights);
+    for k in (1..weights.len()).rev() {
         let weight = weights[k];
         let write = Fraction {
             num: weight,

@@ -1,8 +1,9 @@
 // The tests before a write, in the order of its rows, and the server that it goes to.
 #![tactic(auto)]
 
-ghost use Rattle.std.specs.Prelude.{◌≡◌, IfOk};
+ghost use Rattle.std.specs.Prelude.{◌≡◌, true, IfOk};
 ghost use Rattle.table.specs.Parts.{table_of};
+ghost use Rattle.table.specs.Sound.{sound};
 ghost use Rattle.replies.specs.Refusal.{first_of};
 ghost use Rattle.replies.specs.Reply.{check_number};
 ghost use Rattle.planning.specs.WriteRows.{target, write_rows};
@@ -11,6 +12,17 @@ use draws::Steps;
 use limits::CONTENT_RANGE;
 use replies::Refusal;
 use table::View;
+
+// The server that a write of an id goes to on a sound table.
+fn target(table: &View<'_>, steps: &Steps, id: u32) -> usize
+    requires { sound (table_of table.now) ≡ true }
+    ensures { result ≡ target (table_of table.now) id }
+{
+    let shape = table.shape;
+    let weights = table.weights;
+    let all: &[u32] = weights;
+    placement::write_server(&all[..shape.count], steps, shape.salt, id)
+}
 
 // The server that a write goes to, or the refusal of the tests before it.
 pub fn plan_write(
@@ -26,8 +38,7 @@ pub fn plan_write(
 {
     checks::asked(table, medium, tenant, id, CONTENT_RANGE <= value)?;
     let shape = table.shape;
-    let weights = table.weights;
-    let server = placement::write_server(weights, steps, shape.count, shape.salt, id);
+    let server = target(table, steps, id);
     let entry = table.used[server];
     if entry == shape.capacity {
         return Err(Refusal::ServerFull);

@@ -17,7 +17,7 @@ pub fn add_server(table: &mut Table, weight: u32)
     ensures { table.new ≡ with_server table.old weight }
 {
     let k = table.count;
-    let sum = placement::sum_weights(&table.weights, k);
+    let sum = placement::sum_weights(&table.weights[..k]);
     let write = placement::write_p(k, weight, sum + weight);
     table.weights[k] = weight;
     table.used[k] = 0;

@@ -21,7 +21,7 @@ fn picked(first: u32, second: u32, third: u32, salt: u32) -> u64
 {
     let weights: [u32; 3] = [first, second, third];
     let steps = Steps::new();
-    placement::write_server(&weights, &steps, 3, salt, 626627286) as u64
+    placement::write_server(&weights, &steps, salt, 626627286) as u64
 }
 
 // p is for the step of a server, s for the seed and d for the draw of an id on a server, r for a seed after some rounds, and k

@@ -1,8 +1,9 @@
 -- `picks::Picker::server_of` meets its contract. The invariant: the write server is the highest of those left that take the id.
-use Rattle.std.proofs.Common.{◌≡◌, ℕ, ◌+◌, ◌*◌, ◌-◌, ◌/◌, ◌%◌, length, subst, arith}
+use Rattle.std.proofs.Common.{◌≡◌, ℕ, ◌+◌, ◌*◌, ◌-◌, ◌/◌, ◌%◌, length, subst, arith, ◌∙◌}
 use Rattle.lists.proofs.Below.{highest-le}
+use Rattle.placement.proofs.Fronts.{front-bounded, front-server}
 use Rattle.picks.specs.Limited.{block, passes}
-use Rattle.picks.proofs.Limiting.{ServedBy, served-all, served-past, served-among, served-rest}
+use Rattle.picks.proofs.Limiting.{ServedBy, served-all, served-past, served-among, served-rest, bounded-first}
 use Rattle.picks.proofs.Picker.server_of.Goals as goal
 
 pub loop-block-init : goal.loop-block-init
@@ -23,7 +24,10 @@ returns-then-some_takes c =
 pub loop-block-preserved : goal.loop-block-preserved
 loop-block-preserved c = served-past _ _ _ _ _ block _ (omega arith) c.loop-block.invariant c.some_takes.ensures c.if-some_takes.false
 
+pub write_server-requires : goal.write_server-requires
+write_server-requires c = front-bounded _ _ (bounded-first _ _ _ c.args.self.now.bounded (omega arith))
+
 pub returns : goal.returns
 returns c =
     let rest : length c.args.self.now.weights.now % block + block * c.loop-block.block ≡ length c.args.self.now.weights.now % block = omega arith in
-    served-rest _ _ _ _ _ (rw rest at c.loop-block.invariant) c.write_server.ensures
+    served-rest _ _ _ _ _ (rw rest at c.loop-block.invariant) (c.write_server.ensures ∙ front-server _ _ _ _ (omega arith))
