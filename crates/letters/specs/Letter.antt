@@ -1,17 +1,43 @@
--- The letters of document 01's lines: S starts a table, and F, G, W, D and L are the calls.
-use Rattle.std.specs.Prelude.{ℕ, List, [], ◌∷◌, eqb}
-use Rattle.lists.specs.Below.{nth, highest, or_zero}
+-- The letters of a sheet's lines: S starts a table, and F, G, W, D and L are the calls.
+use Rattle.std.specs.Prelude.{ℕ, cond, eqb, Option, None, Some}
+use Rattle.tenants.specs.Tenant.{tenant_of}
+use Rattle.calls.specs.declared.Call.{Call}
+use Rattle.calls.specs.declared.Call.TheVariants.{AddServer, Reweight, Write, Delete, Lookup}
 
 abbrev pub start_letter : ℕ
 start_letter = 83
 
--- the calls' letters F, G, W, D and L, each at its call's number; number 0 is no call and has no letter
-unfoldable pub letters : List ℕ
-letters = 0 ∷ 70 ∷ 71 ∷ 87 ∷ 68 ∷ 76 ∷ []
+-- the calls have F, G, W, D and L
+abbrev pub add_server_letter : ℕ
+add_server_letter = 70
 
-unfoldable pub letter_of : ℕ → ℕ
-letter_of number = nth letters number
+abbrev pub reweight_letter : ℕ
+reweight_letter = 71
 
--- the number of the call that has this letter, and 0 where no call has it
-unfoldable pub number_for : ℕ → ℕ
-number_for letter = or_zero (highest (λ number. eqb (letter_of number) letter) 6)
+abbrev pub write_letter : ℕ
+write_letter = 87
+
+abbrev pub delete_letter : ℕ
+delete_letter = 68
+
+abbrev pub lookup_letter : ℕ
+lookup_letter = 76
+
+-- each call has one letter
+unfoldable pub letter_of : Call → ℕ
+letter_of (AddServer _) = add_server_letter
+letter_of (Reweight _ _) = reweight_letter
+letter_of (Write _ _ _) = write_letter
+letter_of (Delete _ _) = delete_letter
+letter_of (Lookup _ _) = lookup_letter
+
+-- the call of a letter and its numbers, where the letter has one: F has a weight; G has a server and its weight; W has an id and its
+-- value; D and L have an id. Such a call is the id's own tenant's, and that of an id of 2^30 or more is out of range as the id is.
+unfoldable pub call_for : ℕ → ℕ → ℕ → Option Call
+call_for letter first second =
+    cond (eqb letter add_server_letter) (Some (AddServer first))
+    (cond (eqb letter reweight_letter) (Some (Reweight first second))
+    (cond (eqb letter write_letter) (Some (Write (tenant_of first) first second))
+    (cond (eqb letter delete_letter) (Some (Delete (tenant_of first) first))
+    (cond (eqb letter lookup_letter) (Some (Lookup (tenant_of first) first))
+    None))))

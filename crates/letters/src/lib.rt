@@ -1,37 +1,60 @@
-// The letters of lines. Reading and printing both go by the one table here.
+// A sheet's calls are read and printed by the letters here.
 #![tactic(auto)]
 
 ghost use Rattle.std.specs.Prelude.{◌≡◌};
-ghost use Rattle.letters.specs.Letter.{letter_of, number_for};
+ghost use Rattle.letters.specs.Letter.{letter_of, call_for};
 
-use replies::{ADD_SERVER, DELETE, LOOKUP, REWEIGHT, WRITE};
+use calls::Call;
 
-// S, which starts a table.
-pub const START: u8 = 83;
+// S starts a table.
+pub const START: u8 = b'S';
 
-// The letter of a call by its number: F, G, W, D and L; 0 where the number is no call.
-#[tactic(auto, unfolding(crate::specs::Letter::letter_of, crate::specs::Letter::letters))]
-pub fn letter_of(number: u32) -> u8
-    ensures { result ≡ letter_of number }
+// Each call has a letter of its own.
+const ADD_SERVER: u8 = b'F';
+
+pub const REWEIGHT: u8 = b'G';
+
+pub const WRITE: u8 = b'W';
+
+const DELETE: u8 = b'D';
+
+const LOOKUP: u8 = b'L';
+
+// Answers the letter of a call.
+#[tactic(auto, unfolding(crate::specs::Letter::letter_of))]
+pub fn letter_of(call: Call) -> u8
+    ensures { result ≡ letter_of call }
 {
-    match number {
-        ADD_SERVER => 70,
-        REWEIGHT => 71,
-        WRITE => 87,
-        DELETE => 68,
-        LOOKUP => 76,
-        _ => 0,
+    match call {
+        Call::AddServer { .. } => ADD_SERVER,
+        Call::Reweight { .. } => REWEIGHT,
+        Call::Write { .. } => WRITE,
+        Call::Delete { .. } => DELETE,
+        Call::Lookup { .. } => LOOKUP,
     }
 }
 
-// The number of the call that a letter stands for; 0 where it stands for none.
-pub fn number_for(letter: u8) -> u32
-    ensures { result ≡ number_for letter }
+// Answers the call that a letter and its numbers stand for, where the letter has one. F takes its first number as the weight. A call
+// with an id is made for the id's own tenant.
+#[tactic(auto, unfolding(crate::specs::Letter::call_for))]
+pub fn call_for(letter: u8, first: u32, second: u32) -> Option<Call>
+    ensures { result ≡ call_for letter first second }
 {
-    for number in (1..6).rev() {
-        if letter_of(number) == letter {
-            return number;
-        }
-    }
-    0
+    let tenant = tenants::tenant_of(first);
+    let call = match letter {
+        ADD_SERVER => Call::AddServer { weight: first },
+        REWEIGHT => Call::Reweight {
+            server: first,
+            weight: second,
+        },
+        WRITE => Call::Write {
+            tenant,
+            id: first,
+            value: second,
+        },
+        DELETE => Call::Delete { tenant, id: first },
+        LOOKUP => Call::Lookup { tenant, id: first },
+        _ => return None,
+    };
+    Some(call)
 }

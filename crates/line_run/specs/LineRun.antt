@@ -1,4 +1,4 @@
--- One line of a sheet, run (document 01, "The program"): what it prints, and the table in use and the medium after it.
+-- What one line of a sheet prints, and what the table in use and the medium are after it.
 use Rattle.std.specs.Prelude.{Option, None, Some}
 use Rattle.parsing.specs.declared.Line.{Line}
 use Rattle.parsing.specs.declared.Line.TheVariants as line
@@ -9,5 +9,5 @@ use Rattle.sheet_call.specs.SheetCall.{call_run}
 -- a start, a call, or a line that can't be read
 unfoldable pub line_run : Sheet → Option Line → Done
 line_run s (Some (line.Start capacity)) = start_run s capacity
-line_run s (Some (line.Call number subject amount)) = call_run s s.table number subject amount
+line_run s (Some (line.Call call)) = call_run s s.table call
 line_run s None = record { bytes = question; sheet = s }

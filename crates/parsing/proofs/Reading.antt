@@ -1,17 +1,16 @@
 -- Reading step by step: the digits at the front, the number that they make, and the line of a letter and its numbers.
 -- Assumes nothing.
-use Rattle.std.proofs.Common.{◌≡◌, ◌≢◌, ℕ, zero, suc, ◌+◌, ◌-◌, ◌*◌, ◌^◌, ◌≤◌, ◌<◌, min, Bool, not, true, false, cond, ltb, eqb, List, [], Option, Some, None, length, get_or, take, drop, take_all, sym, ◌∙◌, length-drop, length-take, get_or-take, get_or-drop, add-one, arith}
-use Rattle.std.specs.List.{prefix_len, position_or_len}
-use Rattle.std.proofs.lemmas.List.Sums.{prefix_len-drop_yes, prefix_len-drop_no, prefix_len-drop_all, prefix_len_passes, prefix_len-le-length}
+use Rattle.std.proofs.Common.{◌≡◌, ◌≢◌, ℕ, zero, suc, ◌+◌, ◌-◌, ◌*◌, ◌^◌, ◌≤◌, ◌<◌, min, Bool, true, false, cond, ltb, eqb, List, Option, Some, None, length, get_or, take, drop, take_all, length-drop, length-take, get_or-take, get_or-drop, add-one, arith}
+use Rattle.std.specs.List.{prefix_len}
+use Rattle.std.proofs.lemmas.List.Sums.{prefix_len-drop_yes, prefix_len-drop_no, prefix_len-drop_all, prefix_len_passes}
 use Rattle.std.proofs.lemmas.List.Folds.{length-prefix_len}
 use native.Mathlib.Nat.{pow-le-pow_right}
-use lib.ListN.{get_or-eq_default, drop_of_length-le}
-use lib.Seq.{drop-cons}
+use lib.ListN.{get_or-eq_default}
 use borrow.Author.Tests.{le-leb, lt-ltb, le-ltb, ltb-true, ltb-false, eq-eqb, ne_eqb, leb-true}
 use Rattle.lists.specs.Below.{nth}
 use Rattle.lists.proofs.Tests.{by_bool, and_l, and_r}
 use Rattle.parsing.specs.declared.Line.{Line}
-use Rattle.parsing.specs.Line.{is_digit, digit_run, value_of, Number, number_at, spaced, line_by, has_two, last, first, line_of, end_below, end_of}
+use Rattle.parsing.specs.Line.{is_digit, digit_run, value_of, Number, number_at, spaced, line_by, has_two, last, first, line_of}
 
 -- what the next digit makes of a value, and that ten digits fit
 pub next-value : (s : List ℕ) (from n v : ℕ) → v ≡ value_of s from n → v * 10 + (nth s (from + n) - 48) ≡ value_of s from (n + 1)
@@ -152,41 +151,3 @@ module _ (s : List ℕ) (a n : ℕ) (e : Some (a, n) ≡ spaced s 1) where
   pub none_after : (x : Number) (r : Option Line) → line_of s ≡ whole_of x → x.1 ≡ length s → r ≡ line_by (nth s 0) a x.0 → r ≡ line_of s
   unfolding whole_of
   none_after x r w d f = rw (w, eq-eqb x.1 (length s) d) f
-
--- where a line ends, by the place of the first LF from its beginning on
-abbrev pub is_lf : ℕ → Bool
-is_lf b = eqb b 10
-
-ends : (s : List ℕ) (n from : ℕ) → from + n ≡ length s → end_below s from n ≡ from + position_or_len is_lf (drop from s)
-unfolding end_below
-ends s zero from e = let l : length s ≤ from = omega arith in let d : drop from s ≡ [] = drop_of_length-le s l in rw d (omega arith)
-ends s (suc n) from e = rw (drop-cons s from 0 (omega arith)) (by_bool (eqb (nth s from) 10)
-    (λ t. rw t (omega arith))
-    (λ f. rw (f, ends s n (suc from) (omega arith)) (omega arith)))
-
-pub end-at : (s : List ℕ) (from : ℕ) → from ≤ length s → end_of s from ≡ from + position_or_len is_lf (drop from s)
-unfolding end_of
-end-at s from h = ends s (length s - from) from (omega arith)
-
--- what the first LF's place says of where it is
-found : (p l n : ℕ) → cond (ltb p l) (Some p) None ≡ Some n → n ≡ p
-found p l n = by_bool (ltb p l) (λ t. rw t (λ e. cc)) (λ f. rw f (λ e. cc))
-
-missing : (p l : ℕ) → cond (ltb p l) (Some p) None ≡ None → l ≤ p
-missing p l = by_bool (ltb p l) (λ t. rw t (λ e. cc)) (λ f. rw f (λ e. ltb-false p l f))
-
-module _ (s : List ℕ) (from : ℕ) (h : from ≤ length s) (r : Option ℕ)
-    (e : r ≡ cond (ltb (position_or_len is_lf (rest s from)) (length (rest s from))) (Some (position_or_len is_lf (rest s from))) None) where
-  end-is : end_of s from ≡ from + position_or_len is_lf (rest s from)
-  end-is =
-      let whole : rest s from ≡ drop from s = take_all _ _ (simp length-drop (omega arith)) in
-      rw whole (end-at s from h)
-
-  pub at_lf : (n : ℕ) → r ≡ Some n → from + n ≡ end_of s from
-  at_lf n i = let p = found _ _ n (sym e ∙ i) in omega (arith, end-is)
-
-  pub no_lf : r ≡ None → length s ≡ end_of s from
-  no_lf i =
-      let p = missing _ _ (sym e ∙ i) in
-      let w : length (rest s from) ≡ length s - from = simp (length-take, length-drop) (omega arith) in
-      omega (arith, end-is, prefix_len-le-length (λ b. not (is_lf b)) (rest s from))

@@ -1,11 +1,11 @@
--- Reading a line (document 01, "The program"): a letter and numbers of 1 to 10 digits below 2^32, one space between.
+-- How a line is read: it has a letter and numbers of 1 to 10 digits below 2^32, one space between.
 -- A line is a list of bytes without its LF.
 use Rattle.std.specs.Prelude.{ℕ, zero, suc, ◌+◌, ◌-◌, ◌*◌, Bool, cond, ◌&&◌, ◌||◌, List, length, leb, ltb, eqb, Option, None, Some}
+use Rattle.std.specs.Option.{option_map}
 use Rattle.lists.specs.Below.{nth}
-use Rattle.replies.specs.Number.{add_server_number, reweight_number, write_number}
 use Rattle.parsing.specs.declared.Line.{Line}
 use Rattle.parsing.specs.declared.Line.TheVariants as line
-use Rattle.letters.specs.Letter.{start_letter, number_for}
+use Rattle.letters.specs.Letter.{start_letter, reweight_letter, write_letter, call_for}
 
 unfoldable pub is_digit : ℕ → Bool
 is_digit b = leb 48 b && leb b 57
@@ -34,18 +34,13 @@ number_at s from =
 unfoldable pub spaced : List ℕ → ℕ → Option Number
 spaced s at = cond (eqb (nth s at) 32) (number_at s (at + 1)) None
 
--- the line of a letter and its numbers, where the letter has one: S starts; a call has its subject first, but F has its amount alone
+-- the line of a letter and its numbers, where the letter has one: S starts, and the others are calls
 unfoldable pub line_by : ℕ → ℕ → ℕ → Option Line
-line_by letter a b =
-    let number = number_for letter in
-    cond (eqb letter start_letter) (Some (line.Start a))
-    (cond (eqb number 0) None
-    (cond (eqb number add_server_number) (Some (line.Call number 0 a))
-    (Some (line.Call number a b))))
+line_by letter a b = cond (eqb letter start_letter) (Some (line.Start a)) (option_map line.Call (call_for letter a b))
 
 -- G and W have two numbers, the others one
 unfoldable pub has_two : ℕ → Bool
-has_two letter = eqb (number_for letter) reweight_number || eqb (number_for letter) write_number
+has_two letter = eqb letter reweight_letter || eqb letter write_letter
 
 -- the last number of a line, with nothing after it; None is a line that can't be read
 unfoldable pub last : List ℕ → (ℕ → Option Line) → Option Number → Option Line
@@ -61,11 +56,3 @@ first s (Some x) =
 
 unfoldable pub line_of : List ℕ → Option Line
 line_of s = first s (spaced s 1)
-
--- where the line that begins at a position ends: at the first LF from there on, or at the end
-unfoldable pub end_below : List ℕ → ℕ → ℕ → ℕ
-end_below s from zero = from
-end_below s from (suc n) = cond (eqb (nth s from) 10) from (end_below s (suc from) n)
-
-unfoldable pub end_of : List ℕ → ℕ → ℕ
-end_of s from = end_below s from (length s - from)

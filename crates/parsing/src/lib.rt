@@ -1,19 +1,18 @@
-// Reading numbers, the line that a letter and its numbers make, and the ends of lines.
+// This crate reads numbers, and makes the line of a letter and its numbers.
 #![tactic(auto)]
 
 ghost use Rattle.std.specs.Prelude.{◌≡◌, ◌≤◌, length};
 ghost use Rattle.std.specs.List.{prefix_len};
-ghost use Rattle.parsing.specs.Line.{is_digit, number_at, spaced, line_by, has_two, end_of};
+ghost use Rattle.parsing.specs.Line.{is_digit, number_at, spaced, line_by, has_two};
 
-use letters::{START, number_for};
-use replies::{ADD_SERVER, REWEIGHT, WRITE};
+use calls::Call;
+use letters::{REWEIGHT, START, WRITE};
 
-// What a line asks for: a start and its capacity; or a call by its number, with its subject (an id or a server) and its amount
-// (a value or a weight).
+// A line asks for a start, which has a capacity, or for a call.
 #[derive(Clone, Copy)]
 pub enum Line {
     Start(u32),
-    Call(u32, u32, u32),
+    Call(Call),
 }
 
 // A number has at most so many digits.
@@ -55,37 +54,21 @@ pub fn number_after(line: &[u8], at: usize) -> Option<(u32, usize)>
     number_at(line, at + 1)
 }
 
-// Where the line that begins at a position ends: at its LF, or at the end of the input.
-pub fn line_end(input: &[u8], from: usize) -> usize
-    requires { from ≤ length input.now }
-    ensures { result ≡ end_of input.now from }
-{
-    match input[from..].iter().position(|b| *b == b'\n') {
-        Some(n) => from + n,
-        None => input.len(),
-    }
-}
-
-// The line of a letter and its numbers, where the letter has one. The one number of F is an amount, and that of D or L a subject;
-// G and W have both.
+// Answers the line of a letter and its numbers, where the letter has one.
+#[tactic(auto, unfolding(crate::specs::Line::line_by))]
 pub fn line_by(letter: u8, first: u32, second: u32) -> Option<Line>
     ensures { result ≡ line_by letter first second }
 {
     if letter == START {
         return Some(Line::Start(first));
     }
-    let number = number_for(letter);
-    match number {
-        0 => None,
-        ADD_SERVER => Some(Line::Call(number, 0, first)),
-        _ => Some(Line::Call(number, first, second)),
-    }
+    letters::call_for(letter, first, second).map(Line::Call)
 }
 
 // Whether a line of this letter has a second number, as G and W have.
+#[tactic(auto, unfolding(crate::specs::Line::has_two))]
 pub fn has_two(letter: u8) -> bool
     ensures { result ≡ has_two letter }
 {
-    let number = number_for(letter);
-    number == REWEIGHT || number == WRITE
+    letter == REWEIGHT || letter == WRITE
 }

@@ -7,13 +7,11 @@ use native.Mathlib.Numerals.{add-one}
 use native.Mathlib.Omega.{arith}
 use lib.ListN.{length, set, length-append}
 use lib.Seq.{sets}
-use lib.Dec.{ltb, eqb}
-use borrow.Author.Tests.{lt-ltb, le-ltb, ne_eqb, eqb-false}
+use lib.Dec.{ltb}
+use borrow.Author.Tests.{lt-ltb, le-ltb}
 use Rattle.lists.proofs.Below.{sets-append}
 use Rattle.lists.proofs.Tests.{by_bool}
-use Rattle.replies.specs.declared.Reply.{Reply}
-use Rattle.letters.specs.Letter.{letter_of}
-use Rattle.printing.specs.Print.{digits, decimal, printed, question, answered}
+use Rattle.printing.specs.Print.{digits, decimal, printed}
 
 -- room for one digit more changes nothing
 digits-room : (n x : ℕ) → x < 10 ^ suc n → digits (suc n) x ≡ digits (suc (suc n)) x
@@ -94,17 +92,3 @@ pub length-line : (letter refusal first second : ℕ)
     → length (printed letter refusal first second) ≡ length (decimal refusal) + length (decimal first) + length (decimal second) + 5
 unfolding printed
 length-line letter refusal first second = simp length-append (omega arith)
-
--- the line of each call, by its number
-module _ (n : ℕ) (r : Reply) where
-  pub line_by_server : 1 ≤ n → n < 3 → answered n r ≡ printed (letter_of n) r.refusal r.server 0
-  unfolding answered
-  line_by_server l h = by_bool (eqb n 1)
-      (λ e. rw e)
-      (λ f. let two : n ≡ 2 = omega (arith, eqb-false n 1 f) in rw two)
-
-  pub no_call : (0 < n → 5 < n) → answered n r ≡ question
-  unfolding answered
-  no_call h =
-      let other = λ (k : ℕ) (l : 1 ≤ k) (m : k ≤ 5). ne_eqb n k (λ e. let p : 0 < n = omega arith in omega (arith, h p)) in
-      rw (other 1 (omega arith) (omega arith), other 2 (omega arith) (omega arith), other 3 (omega arith) (omega arith), other 4 (omega arith) (omega arith), other 5 (omega arith) (omega arith))

@@ -1,8 +1,9 @@
 -- What a line prints: a letter, the refusal number or 0, and two answers; or a lone question mark.
-use Rattle.std.specs.Prelude.{ℕ, zero, suc, ◌+◌, ◌/◌, ◌%◌, cond, List, [], ◌∷◌, ◌++◌, ltb, eqb}
-use Rattle.replies.specs.Number.{add_server_number, reweight_number, write_number, delete_number, lookup_number}
+use Rattle.std.specs.Prelude.{ℕ, zero, suc, ◌+◌, ◌/◌, ◌%◌, cond, List, [], ◌∷◌, ◌++◌, ltb}
+use Rattle.calls.specs.declared.Call.{Call}
+use Rattle.calls.specs.declared.Call.TheVariants.{AddServer, Reweight, Write, Delete, Lookup}
 use Rattle.replies.specs.declared.Reply.{Reply}
-use Rattle.letters.specs.Letter.{letter_of}
+use Rattle.letters.specs.Letter.{add_server_letter, reweight_letter, write_letter, delete_letter, lookup_letter}
 
 -- decimal digits without leading zeros, of a number of at most n digits
 unfoldable pub digits : ℕ → ℕ → List ℕ
@@ -23,13 +24,10 @@ longest_line = 35
 unfoldable pub question : List ℕ
 question = 63 ∷ 10 ∷ []
 
--- the answer of a call by its number: F server 0; G server 0; W server invalidated; D invalidated 0; L value opened
-unfoldable pub answered : ℕ → Reply → List ℕ
-answered number r =
-    let line = printed (letter_of number) r.refusal in
-    cond (eqb number add_server_number) (line r.server 0)
-    (cond (eqb number reweight_number) (line r.server 0)
-    (cond (eqb number write_number) (line r.server r.invalidated)
-    (cond (eqb number delete_number) (line r.invalidated 0)
-    (cond (eqb number lookup_number) (line r.value r.opened)
-    question))))
+-- the answer of a call: F server 0; G server 0; W server invalidated; D invalidated 0; L value opened
+unfoldable pub answered : Call → Reply → List ℕ
+answered (AddServer _) r = printed add_server_letter r.refusal r.server 0
+answered (Reweight _ _) r = printed reweight_letter r.refusal r.server 0
+answered (Write _ _ _) r = printed write_letter r.refusal r.server r.invalidated
+answered (Delete _ _) r = printed delete_letter r.refusal r.invalidated 0
+answered (Lookup _ _) r = printed lookup_letter r.refusal r.value r.opened

@@ -6,8 +6,8 @@ ghost use Rattle.std.specs.Prelude.{◌≡◌, ◌<◌, ◌≤◌, ◌+◌, leng
 ghost use Rattle.std.proofs.lemmas.List.Edits.{sets};
 ghost use Rattle.printing.specs.Print.{longest_line, decimal, printed, question, answered};
 
-use letters::letter_of;
-use replies::{ADD_SERVER, DELETE, LOOKUP, REWEIGHT, Reply, WRITE};
+use calls::Call;
+use replies::Reply;
 
 // Bytes of the longest line that is printed: a letter, three numbers of ten digits, a blank before each, and LF.
 pub const LONGEST_LINE: usize = 35;
@@ -51,23 +51,24 @@ pub fn put_answer(
     three + 1
 }
 
-// Puts the answer line of a call by its number.
-pub fn put_reply(out: &mut [u8], at: usize, number: u32, reply: Reply) -> usize
+// Puts the answer line of a call.
+#[tactic(auto, unfolding(crate::specs::Print::answered, letters::specs::Letter::letter_of))]
+pub fn put_reply(out: &mut [u8], at: usize, call: Call, reply: Reply) -> usize
     requires longest_line_in_bounds { at + longest_line ≤ length out.old }
     requires server_bound { (reply.server < 4294967296) × (reply.opened < 4294967296) × (reply.invalidated < 4294967296) }
-    ensures next { result ≡ at + length (answered number reply) }
-    ensures bytes { out.new ≡ sets out.old at (answered number reply) }
+    ensures next { result ≡ at + length (answered call reply) }
+    ensures bytes { out.new ≡ sets out.old at (answered call reply) }
 {
     let server = reply.server as u32;
     let invalidated = reply.invalidated as u32;
-    let (first, second) = match number {
-        ADD_SERVER | REWEIGHT => (server, 0),
-        WRITE => (server, invalidated),
-        DELETE => (invalidated, 0),
-        LOOKUP => (reply.value, reply.opened as u32),
-        _ => return put_question(out, at),
+    let (first, second) = match call {
+        Call::AddServer { .. } | Call::Reweight { .. } => (server, 0),
+        Call::Write { .. } => (server, invalidated),
+        Call::Delete { .. } => (invalidated, 0),
+        Call::Lookup { .. } => (reply.value, reply.opened as u32),
     };
-    put_answer(out, at, letter_of(number), reply.refusal, first, second)
+    let letter = letters::letter_of(call);
+    put_answer(out, at, letter, reply.refusal, first, second)
 }
 
 // Puts the question mark of a line that can't be read, or comes before the first accepted S.

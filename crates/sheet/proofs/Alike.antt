@@ -31,7 +31,7 @@ unfolding line_run call_run start_run settle
 line-alike lines m m' e h (Some (line.Start capacity)) = by_bool (eqb (first_of (start_rows capacity sheet_salt)) 0)
     (λ a. rw a (ap (λ (w : List ℕ). (line_run (fresh m) (Some (line.Start capacity))).bytes ++ (run (record { table = Some (start_table capacity sheet_salt); medium = w }) lines).bytes) (ap (λ (n : ℕ). replicate n blank) e)))
     (λ r. rw (r, h))
-line-alike lines m m' e h (Some (line.Call number subject amount)) = ap (λ (x : List ℕ). question ++ x) h
+line-alike lines m m' e h (Some (line.Call call)) = ap (λ (x : List ℕ). question ++ x) h
 line-alike lines m m' e h None = ap (λ (x : List ℕ). question ++ x) h
 
 run-alike : (lines : List (List ℕ)) (m m' : List ℕ) → length m ≡ length m' → (run (fresh m) lines).bytes ≡ (run (fresh m') lines).bytes

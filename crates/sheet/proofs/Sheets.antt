@@ -1,8 +1,8 @@
 -- A sheet line after line: what a line prints at most, where lines end, and what is left to run.
 -- Assumes nothing.
 use Prim.Native.Nat.{ℕ, suc, ◌+◌, ◌-◌, ◌*◌, ◌≤◌, ◌<◌}
-use mathlib.Core.Path.{◌≡◌, refl, sym, ap, ◌∙◌}
-use mathlib.Core.Bool.{false}
+use mathlib.Core.Path.{◌≡◌, refl, ap, ◌∙◌}
+use mathlib.Core.Bool.{Bool, false}
 use mathlib.Core.List.{List, [], ◌∷◌, ◌++◌}
 use Rattle.std.specs.Prelude.{Option, None, Some}
 use native.Mathlib.Omega.{arith}
@@ -10,23 +10,23 @@ use Rattle.std.proofs.Common.{min, get_or, true, take_all, Bor}
 use Rattle.std.specs.Option.{MatchOption, unwrap_or}
 use Rattle.std.proofs.lemmas.List.{get_or_append_left, take-append-le, append-nil}
 use Rattle.std.proofs.Math.Seq.{drop-append_seam}
-use lib.ListN.{length, take, drop, length-append, length-drop, drop_of_length-le}
-use lib.Seq.{sets, drop-cons, drop-drop}
+use lib.ListN.{length, take, drop, length-append, drop_of_length-le}
+use lib.Seq.{sets, drop-cons}
 use lib.Dec.{ltb, eqb}
 use borrow.Author.Tests.{lt-ltb, le-ltb, ltb-false, ltb-true, eqb-true}
 use Rattle.lists.proofs.Below.{sets-append}
 use Rattle.lists.proofs.Tests.{by_bool, true-not-false}
 use Rattle.table.specs.declared.Table.{Table}
-use Rattle.replies.specs.Number.{add_server_number, reweight_number, write_number, delete_number, lookup_number}
+use Rattle.calls.specs.declared.Call.{Call}
+use Rattle.calls.specs.declared.Call.TheVariants.{AddServer, Reweight, Write, Delete, Lookup}
 use Rattle.replies.specs.declared.Reply.{Reply}
 use Rattle.parsing.specs.declared.Line.{Line}
 use Rattle.parsing.specs.declared.Line.TheVariants as line
-use Rattle.letters.specs.Letter.{start_letter, letter_of}
+use Rattle.letters.specs.Letter.{start_letter, add_server_letter, reweight_letter, write_letter, delete_letter, lookup_letter}
 use Rattle.std.specs.List.{position_or_len, IsFirstMatchOrLen}
 use Rattle.std.proofs.lemmas.List.Sums.{position_or_len_is}
 use lib.Pointwise.{pointwise}
-use Rattle.parsing.specs.Line.{line_of, end_of}
-use Rattle.parsing.proofs.Reading.{is_lf, end-at}
+use Rattle.parsing.specs.Line.{line_of}
 use Rattle.printing.specs.Print.{printed, question, answered}
 use Rattle.printing.proofs.Printing.{decimal-short, length-line}
 use Rattle.sheet_start.specs.SheetStart.{Sheet, Done, sheet_of, start_run}
@@ -42,30 +42,28 @@ question-short : length question ≤ 35
 unfolding question
 question-short = omega arith
 
-answered-short : (number : ℕ) (r : Reply) → length (answered number r) ≤ 35
+answered-short : (c : Call) (r : Reply) → length (answered c r) ≤ 35
 unfolding answered
-answered-short number r = by_bool (eqb number add_server_number)
-    (λ e. rw e (short (letter_of number) r.refusal r.server 0))
-    (λ f₁. by_bool (eqb number reweight_number)
-    (λ e. rw (f₁, e) (short (letter_of number) r.refusal r.server 0))
-    (λ f₂. by_bool (eqb number write_number)
-    (λ e. rw (f₁, f₂, e) (short (letter_of number) r.refusal r.server r.invalidated))
-    (λ f₃. by_bool (eqb number delete_number)
-    (λ e. rw (f₁, f₂, f₃, e) (short (letter_of number) r.refusal r.invalidated 0))
-    (λ f₄. by_bool (eqb number lookup_number)
-    (λ e. rw (f₁, f₂, f₃, f₄, e) (short (letter_of number) r.refusal r.value r.opened))
-    (λ f₅. rw (f₁, f₂, f₃, f₄, f₅) question-short)))))
+answered-short (AddServer _) r = short add_server_letter r.refusal r.server 0
+answered-short (Reweight _ _) r = short reweight_letter r.refusal r.server 0
+answered-short (Write _ _ _) r = short write_letter r.refusal r.server r.invalidated
+answered-short (Delete _ _) r = short delete_letter r.refusal r.invalidated 0
+answered-short (Lookup _ _) r = short lookup_letter r.refusal r.value r.opened
 
-call-short : (s : Sheet) (o : Option Table) (number subject amount : ℕ) → length (call_run s o number subject amount).bytes ≤ 35
+call-short : (s : Sheet) (o : Option Table) (c : Call) → length (call_run s o c).bytes ≤ 35
 unfolding call_run
-call-short s None number subject amount = question-short
-call-short s (Some t) number subject amount = answered-short number _
+call-short s None c = question-short
+call-short s (Some t) c = answered-short c _
 
 line-short : (s : Sheet) (L : Option Line) → length (line_run s L).bytes ≤ 35
 unfolding line_run start_run
 line-short s (Some (line.Start capacity)) = short start_letter _ 0 0
-line-short s (Some (line.Call number subject amount)) = call-short s s.table number subject amount
+line-short s (Some (line.Call call)) = call-short s s.table call
 line-short s None = question-short
+
+-- LF ends a line
+abbrev pub is_lf : ℕ → Bool
+is_lf b = eqb b 10
 
 -- the first line, by the place of the first LF, and the others after it
 first-line : (b : ℕ) (rest : List ℕ)
@@ -79,16 +77,6 @@ first-line b (c ∷ rest) = by_bool (eqb b 10)
 line-first : (left : List ℕ) (n : ℕ) → 0 < length left → position_or_len is_lf left ≡ n → lines_of left ≡ take n left ∷ lines_of (drop (suc n) left)
 line-first [] n l e = absurd (omega arith)
 line-first (b ∷ rest) n l e = rw (← e) (first-line b rest)
-
--- the line that begins at a position, and the lines after it
-pub next-line : (s : List ℕ) (from : ℕ) → from < length s → lines_of (drop from s) ≡ take (end_of s from - from) (drop from s) ∷ lines_of (drop (end_of s from + 1) s)
-next-line s from l =
-    let n = position_or_len is_lf (drop from s) in
-    let e : end_of s from ≡ from + n = end-at s from (omega arith) in
-    let k : end_of s from - from ≡ n = omega arith in
-    let m : from + suc n ≡ end_of s from + 1 = omega arith in
-    let d : drop (end_of s from + 1) s ≡ drop (suc n) (drop from s) = ap (λ (x : ℕ). drop x s) (sym m) ∙ sym (drop-drop (suc n) from s) in
-    rw (k, d) (line-first (drop from s) n (simp length-drop (omega arith)) refl)
 
 last-byte : (xs : List ℕ) (n : ℕ) → length xs ≡ suc n → drop n xs ≡ get_or xs n 0 ∷ []
 last-byte xs n e =

@@ -2,8 +2,7 @@
 use Rattle.std.proofs.Common.{◌≡◌, ◌≤◌, ◌*◌, length, arith, refl, rules, tests}
 use Rattle.std.specs.Slice.Iter.{split_inclusive_rest}
 use Rattle.std.proofs.lemmas.Fn.{always_returns_same}
-use Rattle.parsing.proofs.Reading.{is_lf}
-use Rattle.sheet.proofs.Sheets.{all_left, line_in, shorter, one-done, none_left, when_too_long, room-question, room-lines}
+use Rattle.sheet.proofs.Sheets.{is_lf, all_left, line_in, shorter, one-done, none_left, when_too_long, room-question, room-lines}
 use Rattle.sheet.proofs.run.Goals as goal
 
 pub put_question-requires : goal.put_question-requires

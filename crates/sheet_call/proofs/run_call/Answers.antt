@@ -17,5 +17,5 @@ put_reply-requires-clause-server_bound c = called_small _ _ _ c.run-reply.ensure
 pub returns : goal.returns
 returns c =
     let ran = c.run-reply.ensures in
-    let done = call-run c.in-Some.table c.args.medium.now c.args.number c.args.subject c.args.amount _ c.tenant_of-tenant.ensures _ _ _ ran.reply ran.table ran.medium in
+    let done = call-run c.in-Some.table c.args.medium.now c.args.call _ _ _ ran.reply ran.table ran.medium in
     record { next = rw (c.in-Some.is, done) c.put_reply.ensures.next; bytes = rw (c.in-Some.is, done) c.put_reply.ensures.bytes; sheet = rw (c.in-Some.is, done) }
