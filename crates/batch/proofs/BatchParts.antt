@@ -21,21 +21,18 @@ use Rattle.replies.proofs.Refusals.{settle-yes, settle-no}
 use Rattle.checks.specs.Ready.{ready_rows}
 use Rattle.lookup.specs.Lookup.{lookup_reply}
 use Rattle.checks.proofs.Passed.{Ready, ready-accepted}
-use Rattle.batch_answer.specs.declared.Batch.{Batch}
-use Rattle.batch_answer.specs.Answer.{mounts, order, filled, batch_by, too_long, refused_batch, settled_batch}
+use Rattle.batch_answer.specs.Answer.{BatchReply, mounts, order, filled, batch_by, too_long, refused_batch, settled_batch}
 use Rattle.batch_answer.specs.Ends.{Ends}
-use Rattle.batch_begin.specs.declared.Parts.{Parts}
-use Rattle.batch_begin.specs.Begin.{first_refusal, first_parts}
-use Rattle.batch_steps.specs.declared.Progress.{Progress}
+use Rattle.batch_begin.specs.Begin.{Columns, first_refusal, first_parts}
 use Rattle.batch.specs.Batch.{lookup_opens, opened_at, batch_rows, long_number, batch_reply}
-use Rattle.batch_steps.specs.Steps.{progress_at, with_parts, stepped_at, stepped_all}
+use Rattle.batch_steps.specs.Steps.{Progress, progress_at, with_parts, stepped_at, stepped_all}
 use Rattle.batch_answer.proofs.Filled.{filled_is}
 use Rattle.batch_answer.proofs.Orders.{mounts-few, order-none}
 use Rattle.batch_answer.proofs.Tally.{tally-nowhere, tally-end, tally-low}
 use Rattle.batch.proofs.Batches.{DoneFrom, Stepped, first_done, step, all_done, refused-opens}
 
 same-batch : {a b : ℕ} {r s v w o p x y : List ℕ} → a ≡ b → r ≡ s → v ≡ w → o ≡ p → x ≡ y
-    → ◌≡◌ {A = Batch} (record { refusal = 0; mounts = a; refusals = r; values = v; opened = o; order = x })
+    → ◌≡◌ {A = BatchReply} (record { refusal = 0; mounts = a; refusals = r; values = v; opened = o; order = x })
     (record { refusal = 0; mounts = b; refusals = s; values = w; opened = p; order = y })
 same-batch e f g h i = rw (e, f, g, h, i)
 
@@ -54,7 +51,7 @@ module _ (t : Table) (m : List ℕ) (tenant : ℕ) (ids : List ℕ) where
   n = length ids
 
   -- the servers from k on are done for every id, and nothing stands after the ids
-  pub record PartsFrom (k : ℕ) (parts : Parts) : Type 0 where
+  pub record PartsFrom (k : ℕ) (parts : Columns) : Type 0 where
     pub part : (i : ℕ) → i < n → DoneFrom t m tenant (nth ids i) k (progress_at parts i)
     pub rest : (i : ℕ) → n ≤ i → (nth parts.refusals i ≡ 0) × (nth parts.values i ≡ 0) × (nth parts.opened i ≡ 0)
     pub few : n ≤ 256
@@ -75,8 +72,8 @@ module _ (t : Table) (m : List ℕ) (tenant : ℕ) (ids : List ℕ) where
       zeros = length-replicate {A = ℕ} 256 0
 
   -- server k is next
-  module _ (k : ℕ) (l : k < t.count) (parts : Parts) (done : PartsFrom (suc k) parts) where
-    abbrev next_parts : Parts
+  module _ (k : ℕ) (l : k < t.count) (parts : Columns) (done : PartsFrom (suc k) parts) where
+    abbrev next_parts : Columns
     next_parts = stepped_all (read_p t k) (shape_of t) (used_of t k) m ids k parts
 
     abbrev part_at : ℕ → Progress
@@ -120,11 +117,11 @@ module _ (t : Table) (m : List ℕ) (tenant : ℕ) (ids : List ℕ) where
     }
 
   -- no id has had more servers opened than there are
-  pub opened-few : (k : ℕ) (parts : Parts) → PartsFrom k parts → t.count ≤ 256 → (i : ℕ) → i < n → nth parts.opened i ≤ 256
+  pub opened-few : (k : ℕ) (parts : Columns) → PartsFrom k parts → t.count ≤ 256 → (i : ℕ) → i < n → nth parts.opened i ≤ 256
   opened-few k parts d c i b = omega (arith, (d.part i b).tally.counted, count_below-le (lookup_opens t m tenant (nth ids i)) t.count)
 
   -- all servers are done: the arrays are those of the single lookups
-  module _ (parts : Parts) (done : PartsFrom 0 parts) where
+  module _ (parts : Columns) (done : PartsFrom 0 parts) where
     single : (i : ℕ) (b : i < n)
         → (nth parts.refusals i ≡ (lookup_reply t m tenant (nth ids i)).refusal)
         × (nth parts.values i ≡ (lookup_reply t m tenant (nth ids i)).value)
@@ -174,7 +171,7 @@ module _ (t : Table) (m : List ℕ) (tenant : ℕ) (ids : List ℕ) where
       refl
       (λ h. order-none (opened_at t m tenant ids) n h 0 ∙ sym (order-none (opened_at t m tenant ids) n h t.count))
 
-  module _ (parts : Parts) (done : PartsFrom 0 parts) where
+  module _ (parts : Columns) (done : PartsFrom 0 parts) where
     servers-ends : Ends (opened_at t m tenant ids) n servers parts.ends
     unfolding some_below
     servers-ends = servers-cases (λ (c : ℕ). Ends (opened_at t m tenant ids) n c parts.ends)
@@ -199,17 +196,17 @@ module _ (t : Table) (m : List ℕ) (tenant : ℕ) (ids : List ℕ) where
       (λ e. omega (arith, settle-no (ready_rows t m false false) t.count 0 (eqb-false (first_of (ready_rows t m false false)) 0 e)))
 
   -- a batch that has the servers from k on behind it, and has opened `mounted` of them
-  pub record BatchFrom (k : ℕ) (parts : Parts) (mounted : ℕ) : Type 0 where
+  pub record BatchFrom (k : ℕ) (parts : Columns) (mounted : ℕ) : Type 0 where
     pub done : PartsFrom k parts
     pub below : k ≤ servers
     pub counted : mounted + count_below (λ j. some_below (λ i. opened_at t m tenant ids i j) n) k ≡ mounts (opened_at t m tenant ids) n t.count
 
   pub batch-start : n ≤ 256 → (number s : ℕ) → number ≡ first_of (ready_rows t m false false) → s ≡ servers
-      → (parts : Parts) → parts ≡ first_parts number tenant ids n → BatchFrom s parts 0
+      → (parts : Columns) → parts ≡ first_parts number tenant ids n → BatchFrom s parts 0
   batch-start few number s a b parts e = rw (e, a, b) (record { done = first-parts few; below = omega arith; counted = omega (arith, servers-mounts) })
 
   -- no more servers are opened than there are
-  pub mounted-few : (k : ℕ) (parts : Parts) (mounted : ℕ) → BatchFrom k parts mounted → mounted ≤ t.count
+  pub mounted-few : (k : ℕ) (parts : Columns) (mounted : ℕ) → BatchFrom k parts mounted → mounted ≤ t.count
   mounted-few k parts mounted from = omega (arith, from.counted, mounts-few (opened_at t m tenant ids) n t.count)
 
   -- a server that is still to come is there, and so are all
@@ -221,8 +218,8 @@ module _ (t : Table) (m : List ℕ) (tenant : ℕ) (ids : List ℕ) where
       (λ e. absurd (omega (arith, settle-no (ready_rows t m false false) t.count 0 (eqb-false (first_of (ready_rows t m false false)) 0 e))))
 
   -- server k is next: r is what the code's test says, whether it is opened
-  module _ (k : ℕ) (parts : Parts) (mounted : ℕ) (from : BatchFrom (suc k) parts mounted)
-      (next : Parts) (e : next ≡ stepped_all (read_p t k) (shape_of t) (used_of t k) m ids k parts)
+  module _ (k : ℕ) (parts : Columns) (mounted : ℕ) (from : BatchFrom (suc k) parts mounted)
+      (next : Columns) (e : next ≡ stepped_all (read_p t k) (shape_of t) (used_of t k) m ids k parts)
       (x : ℕ) (a : x ≡ suc k) {r : Bool} (h : r ≡ some_below (λ i. eqb (nth next.ends i) x) n) where
     there : k < t.count
     there = (ready-there k (omega (arith, from.below))).0
@@ -245,7 +242,7 @@ module _ (t : Table) (m : List ℕ) (tenant : ℕ) (ids : List ℕ) where
         record { done = rw e (next-parts k there parts from.done); below = omega (arith, from.below); counted = omega (arith, c) }
 
   -- all servers are behind it; s is how many the code goes through
-  module _ (parts : Parts) (mounted : ℕ) (from : BatchFrom 0 parts mounted) (s : ℕ) (b : s ≡ servers) where
+  module _ (parts : Columns) (mounted : ℕ) (from : BatchFrom 0 parts mounted) (s : ℕ) (b : s ≡ servers) where
     pub ends-given : (s ≤ 256) × ((i : ℕ) → i < n → nth parts.ends i ≤ s)
     ends-given = rw b (servers-few, servers-low parts from.done)
 

@@ -34,9 +34,8 @@ use Rattle.lookup.proofs.ServerZero.{ends_there}
 use Rattle.lookup.proofs.Counting.{met-opened}
 use Rattle.search.proofs.Searches.{search-cases, search-low, opened-are}
 use Rattle.batch_begin.specs.Begin.{absent_so_far, first_refusal}
-use Rattle.batch_steps.specs.declared.Progress.{Progress}
 use Rattle.batch.specs.Batch.{lookup_opens}
-use Rattle.batch_steps.specs.Steps.{visited, stepped}
+use Rattle.batch_steps.specs.Steps.{Progress, visited, stepped}
 use Rattle.batch_steps.proofs.Stepping.{step-tested, step-settled}
 use Rattle.batch_answer.proofs.Tally.{Tally, tally-start, tally-none, tally-skip, tally-open, tally-above, tally-count}
 

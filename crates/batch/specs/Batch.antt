@@ -8,8 +8,7 @@ use Rattle.upkeep.specs.Upkeep.{with_opened}
 use Rattle.replies.specs.Refusal.{Row, ◌when◌, settle}
 use Rattle.search.specs.Opened.{opens}
 use Rattle.lookup.specs.Lookup.{lookup_rows, lookup_reply, lookup_table}
-use Rattle.batch_answer.specs.declared.Batch.{Batch}
-use Rattle.batch_answer.specs.Answer.{batch_by, opened_in, too_long, settled_batch}
+use Rattle.batch_answer.specs.Answer.{BatchReply, batch_by, opened_in, too_long, settled_batch}
 
 -- a single lookup opens server k; one that is refused before its search opens none
 unfoldable pub lookup_opens : Table → List ℕ → ℕ → ℕ → ℕ → Bool
@@ -31,7 +30,7 @@ unfoldable pub long_number : Table → ℕ
 long_number t = cond (sound t) 2 1
 
 -- the whole answer to a tenant
-unfoldable pub batch_reply : Table → List ℕ → ℕ → List ℕ → Batch
+unfoldable pub batch_reply : Table → List ℕ → ℕ → List ℕ → BatchReply
 batch_reply t m tenant ids =
     settled_batch (batch_rows t ids)
     (batch_by

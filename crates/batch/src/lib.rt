@@ -4,44 +4,54 @@
 
 ghost use Rattle.std.specs.Prelude.{◌≡◌, cond, ◌==◌};
 ghost use Rattle.table.specs.Parts.{table_of};
-ghost use Rattle.batch_answer.specs.Answer.{refused_batch};
+ghost use Rattle.replies.specs.Reply.{number_of, check_number};
+ghost use Rattle.batch_answer.specs.Answer.{reply_of_batch};
 ghost use Rattle.batch.specs.Batch.{long_number, batch_reply, batch_table};
 
 use batch_answer::Batch;
 use draws::Steps;
 use limits::MAX_IDS;
+use replies::Refusal;
 use table::{Table, View};
 
-// Refuses a list that is too long.
-#[tactic(auto, unfolding(crate::specs::Batch::long_number))]
-fn refuse_list(table: &View<'_>) -> Batch
-    ensures { result ≡ refused_batch (long_number (table_of table.now)) }
+// Why a list that is too long is refused.
+#[tactic(auto, unfolding(crate::specs::Batch::long_number, replies::specs::Reply::number_of))]
+fn refuse_list(table: &View<'_>) -> Refusal
+    ensures { number_of result ≡ long_number (table_of table.now) }
 {
     if table.is_sound() {
-        return batch_answer::refused_batch(2);
+        return Refusal::OutOfRange;
     }
-    batch_answer::refused_batch(1)
+    Refusal::UnsoundTable
 }
 
 // The servers that a batch goes through: all, or none where the tests refuse every id.
-fn searched(number: u32, count: usize) -> usize
-    ensures { result ≡ cond (number == 0) count 0 }
+fn searched(ready: &Result<(), Refusal>, count: usize) -> usize
+    ensures { result ≡ cond (check_number ready.now == 0) count 0 }
 {
-    if number == 0 { count } else { 0 }
+    match ready {
+        Ok(()) => count,
+        Err(_) => 0,
+    }
 }
 
 // Looks a list of ids up for a tenant on a table that is lent. The caller counts the servers that were opened.
-pub fn lookup_batch_in(table: &View<'_>, medium: &[u32], tenant: u32, ids: &[u32]) -> Batch
-    ensures { result ≡ batch_reply (table_of table.now) medium.now tenant ids.now }
+pub fn lookup_batch_in(
+    table: &View<'_>,
+    medium: &[u32],
+    tenant: u32,
+    ids: &[u32],
+) -> Result<Batch, Refusal>
+    ensures { reply_of_batch result ≡ batch_reply (table_of table.now) medium.now tenant ids.now }
 {
     let n = ids.len();
     if n > MAX_IDS {
-        return refuse_list(table);
+        return Err(refuse_list(table));
     }
-    let number = replies::check_number(&checks::ready(table, medium, false, false));
-    let servers = searched(number, table.shape.count);
+    let ready = checks::ready(table, medium, false, false);
+    let servers = searched(&ready, table.shape.count);
     let steps = Steps::new();
-    let mut parts = batch_begin::begin(number, tenant, ids);
+    let mut parts = batch_begin::begin(ready, tenant, ids);
     let mut mounts: usize = 0;
     for k in (0..servers).rev() {
         batch_steps::step_all(&mut parts, table, &steps, medium, ids, k);
@@ -49,23 +59,24 @@ pub fn lookup_batch_in(table: &View<'_>, medium: &[u32], tenant: u32, ids: &[u32
             mounts += 1;
         }
     }
-    Batch {
-        refusal: 0,
+    Ok(Batch {
         mounts,
-        refusals: parts.refusals,
-        values: parts.values,
-        opened: parts.opened,
+        answers: parts.answers,
         order: batch_answer::order(&parts.ends, n, servers),
-    }
+    })
 }
 
 // Looks a list of ids up for a tenant.
-#[tactic(auto, unfolding(crate::specs::Batch::batch_table, batch_answer::specs::Answer::opened_in))]
-pub fn lookup_batch(table: &mut Table, medium: &[u32], tenant: u32, ids: &[u32]) -> Batch
-    ensures reply { result ≡ batch_reply table.old medium.now tenant ids.now }
+pub fn lookup_batch(
+    table: &mut Table,
+    medium: &[u32],
+    tenant: u32,
+    ids: &[u32],
+) -> Result<Batch, Refusal>
+    ensures reply { reply_of_batch result ≡ batch_reply table.old medium.now tenant ids.now }
     ensures table { table.new ≡ batch_table table.old medium.now tenant ids.now }
 {
-    let batch = lookup_batch_in(&table.view(), medium, tenant, ids);
-    upkeep::add_opened(table, tenant, batch_answer::sum(&batch.opened));
-    batch
+    let batch = lookup_batch_in(&table.view(), medium, tenant, ids)?;
+    upkeep::add_opened(table, tenant, batch_answer::sum(&batch.answers));
+    Ok(batch)
 }

@@ -1,5 +1,6 @@
 pub mod Precedence
 pub mod Filled
 pub mod Orders
+pub mod Columns
 mod Laying
 pub mod Tally

@@ -1,13 +1,28 @@
 -- The answer to a batch of lookups, the paper's payout run (document 02, item 1), of up to 256 ids: what each lookup answers, how
 -- many servers are opened for all of them together, and the order in which they are found. The archive's batch and the plain
 -- ledger's are both put together here, from plain numbers: nothing here knows a table or a medium.
-use Rattle.std.specs.Prelude.{ℕ, zero, suc, ◌+◌, ◌<◌, ◌≡◌, Bool, cond, not, ◌&&◌, length, replicate, ltb, eqb}
+use Rattle.std.specs.Prelude.{ℕ, zero, suc, ◌+◌, ◌<◌, ◌≡◌, Bool, cond, not, ◌&&◌, map, length, replicate, ltb, eqb, Result, Ok, Err}
 use mathlib.Core.List.{List, [], ◌∷◌, ◌++◌, Memᴰ}
 use Rattle.std.proofs.lemmas.List.Edits.{sets}
 use Rattle.limits.specs.Limits.{max_ids}
 use Rattle.lists.specs.Below.{nth, some_below, upward, count_below, total, set_below}
+use Rattle.replies.specs.declared.Refusal.{Refusal}
+use Rattle.replies.specs.declared.Reply.{Reply}
+use Rattle.replies.specs.declared.LookupAnswer.{LookupAnswer}
 use Rattle.replies.specs.Refusal.{Row, first_of, settle}
+use Rattle.replies.specs.Reply.{number_of, reply_of_lookup}
 use Rattle.batch_answer.specs.declared.Batch.{Batch}
+
+-- A whole answer in document 01's numbers. Refusal 0 is acceptance. `refusals`, `values` and `opened` have for each id, in the ids'
+-- order, what its lookup answers, and `order` has the ids' positions in the order of finding; after that each list is 0. `mounts` is
+-- the number of servers opened for all ids together.
+pub record BatchReply : Type 0 where
+  pub refusal : ℕ
+  pub mounts : ℕ
+  pub refusals : List ℕ
+  pub values : List ℕ
+  pub opened : List ℕ
+  pub order : List ℕ
 
 -- Here `opened i k` says whether server k is opened for the id at position i, below n; count is the number of servers.
 
@@ -51,7 +66,7 @@ unfoldable pub filled : (ℕ → ℕ) → ℕ → List ℕ
 filled f n = set_below f n (replicate max_ids 0)
 
 -- the answer to n ids: refusal, value and opened count by position, and which servers are opened for which
-unfoldable pub batch_by : (ℕ → ℕ) → (ℕ → ℕ) → (ℕ → ℕ) → (ℕ → ℕ → Bool) → ℕ → ℕ → Batch
+unfoldable pub batch_by : (ℕ → ℕ) → (ℕ → ℕ) → (ℕ → ℕ) → (ℕ → ℕ → Bool) → ℕ → ℕ → BatchReply
 batch_by refusal value number opened n count = record {
   refusal = 0;
   mounts = mounts opened n count;
@@ -62,7 +77,7 @@ batch_by refusal value number opened n count = record {
 }
 
 -- the answer to a list that is refused as a whole: no id is answered
-abbrev pub refused_batch : ℕ → Batch
+abbrev pub refused_batch : ℕ → BatchReply
 refused_batch number = record {
   refusal = number;
   mounts = 0;
@@ -73,7 +88,7 @@ refused_batch number = record {
 }
 
 -- the opened counts of all ids together
-unfoldable pub opened_in : Batch → ℕ
+unfoldable pub opened_in : BatchReply → ℕ
 opened_in b = total (nth b.opened) max_ids
 
 -- a list of more than 256 ids is out of range; every other one is answered id by id
@@ -81,5 +96,30 @@ unfoldable pub too_long : List ℕ → Bool
 too_long ids = ltb max_ids (length ids)
 
 -- the answer by the rows that refuse a list as a whole
-unfoldable pub settled_batch : List Row → Batch → Batch
+unfoldable pub settled_batch : List Row → BatchReply → BatchReply
 settled_batch rows done = settle rows done (refused_batch (first_of rows))
+
+-- one number of each reply to a lookup, as a column
+unfoldable pub column : (Reply → ℕ) → List LookupAnswer → List ℕ
+column part answers = map (λ a. part (reply_of_lookup a)) answers
+
+abbrev pub refusals_of : List LookupAnswer → List ℕ
+refusals_of answers = column (λ r. r.refusal) answers
+
+abbrev pub values_of : List LookupAnswer → List ℕ
+values_of answers = column (λ r. r.value) answers
+
+abbrev pub opened_of : List LookupAnswer → List ℕ
+opened_of answers = column (λ r. r.opened) answers
+
+-- the answer in numbers, of a list that is answered id by id and of one that is refused as a whole
+unfoldable pub reply_of_batch : Result Batch Refusal → BatchReply
+reply_of_batch (Ok b) = record {
+  refusal = 0;
+  mounts = b.mounts;
+  refusals = refusals_of b.answers;
+  values = values_of b.answers;
+  opened = opened_of b.answers;
+  order = b.order;
+}
+reply_of_batch (Err r) = refused_batch (number_of r)

@@ -3,8 +3,20 @@ use Rattle.std.specs.Prelude.{ℕ, cond, List, replicate, eqb}
 use Rattle.limits.specs.Limits.{max_ids}
 use Rattle.lists.specs.Below.{nth}
 use Rattle.tenants.specs.Tenant.{out_of_range, of_another}
-use Rattle.batch_answer.specs.Answer.{filled}
+use Rattle.batch_answer.specs.Answer.{filled, refusals_of, values_of, opened_of}
 use Rattle.batch_begin.specs.declared.Parts.{Parts}
+
+-- How far the lookups of all ids are, as columns of numbers in the order of the ids. A refusal is 8 while no entry was met, and an end
+-- is one more than the last server opened for the id, or 0.
+pub record Columns : Type 0 where
+  pub refusals : List ℕ
+  pub values : List ℕ
+  pub opened : List ℕ
+  pub ends : List ℕ
+
+-- the columns of the parts
+abbrev pub columns_of : Parts → Columns
+columns_of parts = record { refusals = refusals_of parts.answers; values = values_of parts.answers; opened = opened_of parts.answers; ends = parts.ends }
 
 -- the refusal of an id for which no entry was met yet: it is 8, absent, unless a test has refused the id already
 unfoldable pub absent_so_far : ℕ → ℕ
@@ -19,8 +31,8 @@ first_refusal number tenant id =
     (cond (of_another tenant id) 11
     (absent_so_far number)))
 
--- the parts of the first n ids before any server is opened
-unfoldable pub first_parts : ℕ → ℕ → List ℕ → ℕ → Parts
+-- the columns of the first n ids before any server is opened
+unfoldable pub first_parts : ℕ → ℕ → List ℕ → ℕ → Columns
 first_parts number tenant ids n = record {
   refusals = filled (λ i. first_refusal number tenant (nth ids i)) n;
   values = replicate max_ids 0;

@@ -3,54 +3,55 @@
 
 ghost use Rattle.std.specs.Prelude.{◌≡◌, ◌≤◌, length};
 ghost use Rattle.limits.specs.Limits.{max_ids};
-ghost use Rattle.batch_begin.specs.Begin.{first_refusal, first_parts};
+ghost use Rattle.replies.specs.Reply.{number_of, check_number};
+ghost use Rattle.batch_begin.specs.Begin.{columns_of, first_refusal, first_parts};
 
+use batch_answer::UNANSWERED;
 use limits::MAX_IDS;
+use replies::{LookupAnswer, Refusal};
 
-// How far the lookups of all ids are: each array has one number for each id, in the order of the ids. A refusal is 8 while no entry
-// was met, and an end is one more than the last server opened for the id, or 0. An end has 16 bits so that the whole has fewer than
-// 4,096 bytes (docs/BENCHMARKS.md, "What was found and mended").
+// How far the lookups of all ids are, in the order of the ids. An answer is `NotFound` while no entry was met, and an end is one
+// more than the last server opened for the id, or 0.
 #[derive(Clone, Copy)]
 pub struct Parts {
-    pub refusals: [u32; MAX_IDS],
-    pub values: [u32; MAX_IDS],
-    pub opened: [u32; MAX_IDS],
+    pub answers: [LookupAnswer; MAX_IDS],
     pub ends: [u16; MAX_IDS],
 }
 
 // The refusal of an id before any server is opened, by what the tests say of an id in range that is the caller's own.
-#[tactic(auto, unfolding(crate::specs::Begin::first_refusal, crate::specs::Begin::absent_so_far))]
-fn first_refusal(number: u32, tenant: u32, id: u32) -> u32
-    ensures { result ≡ first_refusal number tenant id }
+#[tactic(auto, unfolding(crate::specs::Begin::first_refusal, crate::specs::Begin::absent_so_far, replies::specs::Reply::number_of, replies::specs::Reply::check_number))]
+fn first_refusal(ready: Result<(), Refusal>, tenant: u32, id: u32) -> Refusal
+    ensures { number_of result ≡ first_refusal (check_number ready) tenant id }
 {
-    if number == 1 {
-        return 1;
+    if ready == Err(Refusal::UnsoundTable) {
+        return Refusal::UnsoundTable;
     }
     if tenants::out_of_range(tenant, id) {
-        return 2;
+        return Refusal::OutOfRange;
     }
     if tenants::of_another(tenant, id) {
-        return 11;
+        return Refusal::OtherTenant;
     }
-    if number == 0 {
-        return 8;
+    match ready {
+        Ok(()) => Refusal::NotFound,
+        Err(refusal) => refusal,
     }
-    number
 }
 
-// Every id's part before any server is opened.
-pub fn begin(number: u32, tenant: u32, ids: &[u32]) -> Parts
+// Every id's part before any server is opened, by what the tests say of an id in range that is the caller's own.
+pub fn begin(ready: Result<(), Refusal>, tenant: u32, ids: &[u32]) -> Parts
     requires { length ids.now ≤ max_ids }
-    ensures { result ≡ first_parts number tenant ids.now (length ids.now) }
+    ensures { columns_of result ≡ first_parts (check_number ready) tenant ids.now (length ids.now) }
 {
     let mut parts = Parts {
-        refusals: [0; MAX_IDS],
-        values: [0; MAX_IDS],
-        opened: [0; MAX_IDS],
+        answers: [UNANSWERED; MAX_IDS],
         ends: [0; MAX_IDS],
     };
     for (i, id) in ids.iter().enumerate() {
-        parts.refusals[i] = first_refusal(number, tenant, *id);
+        parts.answers[i] = LookupAnswer {
+            value: Err(first_refusal(ready, tenant, *id)),
+            opened: 0,
+        };
     }
     parts
 }

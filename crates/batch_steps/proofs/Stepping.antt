@@ -1,14 +1,14 @@
 -- A batch step by step: what the code puts together for one id at one server, and for one position more.
 -- Assumes nothing.
 use Prim.Native.Nat.{ℕ, suc, ◌+◌, ◌<◌}
-use mathlib.Core.Path.{◌≡◌, sym, ap, ◌∙◌}
+use mathlib.Core.Path.{◌≡◌, refl, sym, ap, ◌∙◌}
 use mathlib.Core.Logic.{◌≢◌}
 use mathlib.Core.Bool.{Bool, true, false, cond}
 use mathlib.Core.List.{List}
-use Rattle.std.specs.Prelude.{Option, None, Some}
+use Rattle.std.specs.Prelude.{Option, None, Some, Result, Ok, Err}
 use native.Mathlib.Numerals.{add-one}
 use native.Mathlib.Omega.{arith}
-use lib.ListN.{set}
+use lib.ListN.{set, get_or}
 use borrow.Author.Tests.{eq-eqb, ne_eqb}
 use Rattle.lists.specs.Below.{nth, highest, set_below}
 use Rattle.lists.proofs.Below.{set_below-above, set_below-more}
@@ -18,11 +18,17 @@ use Rattle.placement.specs.Fraction.{exceeds}
 use Rattle.medium.specs.Entry.{live}
 use Rattle.table.specs.declared.Shape.{Shape}
 use Rattle.replies.specs.declared.Reply.{Reply}
+use Rattle.replies.specs.declared.Refusal.{Refusal}
+use Rattle.replies.specs.declared.Refusal.TheVariants.{NotFound}
+use Rattle.replies.specs.declared.LookupAnswer.{LookupAnswer}
+use Rattle.replies.specs.Reply.{number_of, found_or, reply_of_lookup}
+use Rattle.replies.proofs.Distinct.{numbers_apart, lookup_opened}
+use Rattle.batch_answer.proofs.Columns.{column-set, column-at}
+use Rattle.batch_begin.specs.declared.Parts.{Parts}
 use Rattle.lookup.specs.Lookup.{met_reply}
 use Rattle.search.proofs.Searches.{highest-at}
-use Rattle.batch_begin.specs.declared.Parts.{Parts}
-use Rattle.batch_steps.specs.declared.Progress.{Progress}
-use Rattle.batch_steps.specs.Steps.{visited, stepped, progress_at, with_parts, stepped_at}
+use Rattle.batch_begin.specs.Begin.{Columns, columns_of}
+use Rattle.batch_steps.specs.Steps.{Progress, progress_of, visited, stepped, progress_at, with_parts, stepped_at}
 
 -- the newest entry of an id is used
 pub newest-used : (capacity used : ℕ) (m : List ℕ) (id k : ℕ) {o : Option ℕ} → o ≡ highest (live capacity used m id k) used → (j : ℕ) → o ≡ Some j → j < used
@@ -53,13 +59,75 @@ module _ (read : Fraction) (shape : Shape) (used : ℕ) (m : List ℕ) (id k : �
       unfolding visited
       step-passed g = sym (step-tested true d ∙ rw (sym f ∙ g, add-one p.opened, add-one k))
 
-      pub step-met : (j : ℕ) → o ≡ Some j → {y z : Reply} → y ≡ z → z ≡ met_reply shape.capacity m (p.opened + 1) (Some (record { server = k; entry = j }))
+      pub step-met : (j : ℕ) → o ≡ Some j → {y : Reply} → y ≡ met_reply shape.capacity m (p.opened + 1) (Some (record { server = k; entry = j }))
           → record { refusal = y.refusal; value = y.value; opened = p.opened + 1; end = k + 1 } ≡ next_part
       unfolding visited
-      step-met j g h i = sym (step-tested true d ∙ rw (sym f ∙ g, h, i, add-one p.opened, add-one k))
+      step-met j g h = sym (step-tested true d ∙ rw (sym f ∙ g, h, add-one p.opened, add-one k))
+
+-- an answer of number 8 is absent, and no other
+absent-value : (v : Result ℕ Refusal) (n : ℕ) → (found_or v n).refusal ≡ 8 → v ≡ Err NotFound
+unfolding found_or number_of
+absent-value (Ok v) n e = absurd (omega arith)
+absent-value (Err r) n e = ap Err (numbers_apart r NotFound e)
+
+-- the answer so far and the end of an id
+module _ (a : LookupAnswer) (end : ℕ) where
+  pub not-absent : a.value ≢ Err NotFound → (progress_of a end).refusal ≢ 8
+  unfolding reply_of_lookup
+  not-absent f e = f (absent-value a.value a.opened e)
+
+  module _ (v : a.value ≡ Err NotFound) where
+    pub is-absent : (progress_of a end).refusal ≡ 8
+    unfolding reply_of_lookup found_or number_of
+    is-absent = rw v refl
+
+    -- a server more is opened for it, with no entry there or with one
+    pub passed-answer : (e : ℕ) → progress_of (record { value = a.value; opened = a.opened + 1 }) e
+        ≡ record { refusal = 8; value = 0; opened = (progress_of a end).opened + 1; end = e }
+    unfolding reply_of_lookup found_or number_of
+    passed-answer e = rw v refl
+
+    pub met-answer : (w : Result ℕ Refusal) (e : ℕ) → progress_of (record { value = w; opened = a.opened + 1 }) e
+        ≡ record {
+          refusal = (found_or w ((progress_of a end).opened + 1)).refusal;
+          value = (found_or w ((progress_of a end).opened + 1)).value;
+          opened = (progress_of a end).opened + 1;
+          end = e;
+        }
+    unfolding reply_of_lookup
+    met-answer w e = rw (lookup_opened a, lookup_opened (record { value = w; opened = a.opened + 1 })) refl
+
+-- the parts of all ids by position: read and stored
+module _ (parts : Parts) (i : ℕ) where
+  abbrev unanswered : LookupAnswer
+  unanswered = record { value = Ok 0; opened = 0 }
+
+  pub part-read : progress_of (get_or parts.answers i unanswered) (nth parts.ends i) ≡ progress_at (columns_of parts) i
+  unfolding reply_of_lookup found_or
+  part-read =
+      let r = column-at (λ (x : Reply). x.refusal) parts.answers i unanswered refl in
+      let v = column-at (λ (x : Reply). x.value) parts.answers i unanswered refl in
+      let o = column-at (λ (x : Reply). x.opened) parts.answers i unanswered refl in
+      λ k. record { refusal = sym r k; value = sym v k; opened = sym o k; end = nth parts.ends i }
+
+  pub opened-read : (get_or parts.answers i unanswered).opened ≡ nth (columns_of parts).opened i
+  opened-read = sym (lookup_opened (get_or parts.answers i unanswered)) ∙ ap (λ (p : Progress). p.opened) part-read
+
+  pub part-stored : (a : LookupAnswer) (e : ℕ) → columns_of (record { answers = set parts.answers i a; ends = set parts.ends i e })
+      ≡ record {
+        refusals = set (columns_of parts).refusals i (progress_of a e).refusal;
+        values = set (columns_of parts).values i (progress_of a e).value;
+        opened = set (columns_of parts).opened i (progress_of a e).opened;
+        ends = set (columns_of parts).ends i e;
+      }
+  part-stored a e =
+      let r = column-set (λ (x : Reply). x.refusal) parts.answers i a in
+      let v = column-set (λ (x : Reply). x.value) parts.answers i a in
+      let o = column-set (λ (x : Reply). x.opened) parts.answers i a in
+      λ k. record { refusals = r k; values = v k; opened = o k; ends = set parts.ends i e }
 
 -- server k for the ids below n
-module _ (read : Fraction) (shape : Shape) (used : ℕ) (m ids : List ℕ) (k : ℕ) (parts : Parts) (n : ℕ) {next : Parts}
+module _ (read : Fraction) (shape : Shape) (used : ℕ) (m ids : List ℕ) (k : ℕ) (parts : Columns) (n : ℕ) {next : Columns}
     (e : next ≡ with_parts (stepped_at read shape used m ids k parts) n parts) where
   abbrev part_at : ℕ → Progress
   part_at = stepped_at read shape used m ids k parts
@@ -89,8 +157,8 @@ module _ (read : Fraction) (shape : Shape) (used : ℕ) (m ids : List ℕ) (k : 
   part-more {p} d =
       let q : p ≡ part_at n = d ∙ ap (stepped read shape used m (nth ids n) k) part-here in
       rw (
-        set_below-more (λ i. (part_at i).refusal) n parts.refusals next.refusals _ (ap (λ (x : Parts). x.refusals) e) (ap (λ (x : Progress). x.refusal) q),
-        set_below-more (λ i. (part_at i).value) n parts.values next.values _ (ap (λ (x : Parts). x.values) e) (ap (λ (x : Progress). x.value) q),
-        set_below-more (λ i. (part_at i).opened) n parts.opened next.opened _ (ap (λ (x : Parts). x.opened) e) (ap (λ (x : Progress). x.opened) q),
-        set_below-more (λ i. (part_at i).end) n parts.ends next.ends _ (ap (λ (x : Parts). x.ends) e) (ap (λ (x : Progress). x.end) q),
+        set_below-more (λ i. (part_at i).refusal) n parts.refusals next.refusals _ (ap (λ (x : Columns). x.refusals) e) (ap (λ (x : Progress). x.refusal) q),
+        set_below-more (λ i. (part_at i).value) n parts.values next.values _ (ap (λ (x : Columns). x.values) e) (ap (λ (x : Progress). x.value) q),
+        set_below-more (λ i. (part_at i).opened) n parts.opened next.opened _ (ap (λ (x : Columns). x.opened) e) (ap (λ (x : Progress). x.opened) q),
+        set_below-more (λ i. (part_at i).end) n parts.ends next.ends _ (ap (λ (x : Columns). x.ends) e) (ap (λ (x : Progress). x.end) q),
       )

@@ -7,8 +7,22 @@ use Rattle.placement.specs.Fraction.{exceeds}
 use Rattle.medium.specs.Entry.{live}
 use Rattle.table.specs.declared.Shape.{Shape}
 use Rattle.lookup.specs.Lookup.{met_reply}
-use Rattle.batch_begin.specs.declared.Parts.{Parts}
-use Rattle.batch_steps.specs.declared.Progress.{Progress}
+use Rattle.replies.specs.declared.LookupAnswer.{LookupAnswer}
+use Rattle.replies.specs.Reply.{reply_of_lookup}
+use Rattle.batch_begin.specs.Begin.{Columns}
+
+-- How far the lookup of one id in a batch is: its number of each column.
+pub record Progress : Type 0 where
+  pub refusal : ℕ
+  pub value : ℕ
+  pub opened : ℕ
+  pub end : ℕ
+
+-- the same by its answer so far and its end
+abbrev pub progress_of : LookupAnswer → ℕ → Progress
+progress_of answer end =
+    let r = reply_of_lookup answer in
+    record { refusal = r.refusal; value = r.value; opened = r.opened; end = end }
 
 -- server k is opened for an id, and `opened` is the number of servers opened with it; an entry there ends the search
 unfoldable pub visited : ℕ → List ℕ → ℕ → ℕ → Option ℕ → Progress
@@ -26,11 +40,11 @@ stepped read shape used m id k p =
     p
 
 -- the part of the id at position i
-abbrev pub progress_at : Parts → ℕ → Progress
+abbrev pub progress_at : Columns → ℕ → Progress
 progress_at parts i = record { refusal = nth parts.refusals i; value = nth parts.values i; opened = nth parts.opened i; end = nth parts.ends i }
 
 -- the parts with the first n given by f, and the rest as they are
-unfoldable pub with_parts : (ℕ → Progress) → ℕ → Parts → Parts
+unfoldable pub with_parts : (ℕ → Progress) → ℕ → Columns → Columns
 with_parts f n parts = record {
   refusals = set_below (λ i. (f i).refusal) n parts.refusals;
   values = set_below (λ i. (f i).value) n parts.values;
@@ -39,8 +53,8 @@ with_parts f n parts = record {
 }
 
 -- what server k makes of the part at position i, and of every part
-unfoldable pub stepped_at : Fraction → Shape → ℕ → List ℕ → List ℕ → ℕ → Parts → ℕ → Progress
+unfoldable pub stepped_at : Fraction → Shape → ℕ → List ℕ → List ℕ → ℕ → Columns → ℕ → Progress
 stepped_at read shape used m ids k parts i = stepped read shape used m (nth ids i) k (progress_at parts i)
 
-unfoldable pub stepped_all : Fraction → Shape → ℕ → List ℕ → List ℕ → ℕ → Parts → Parts
+unfoldable pub stepped_all : Fraction → Shape → ℕ → List ℕ → List ℕ → ℕ → Columns → Columns
 stepped_all read shape used m ids k parts = with_parts (stepped_at read shape used m ids k parts) (length ids) parts

@@ -6,68 +6,45 @@ ghost use Rattle.limits.specs.Limits.{max_servers, max_ids};
 ghost use Rattle.lists.specs.Below.{nth};
 ghost use Rattle.medium.specs.Entry.{Inside};
 ghost use Rattle.table.specs.Parts.{table_of, read_p, used_of};
-ghost use Rattle.batch_steps.specs.Steps.{stepped, stepped_all};
+ghost use Rattle.batch_begin.specs.Begin.{columns_of};
+ghost use Rattle.batch_steps.specs.Steps.{progress_of, stepped, stepped_all};
 
 use batch_begin::Parts;
 use draws::Steps;
-use replies::LookupAnswer;
+use replies::{LookupAnswer, Refusal};
 use search::Place;
 use table::View;
 
-// How far the lookup of one id in a batch is: its number of each array of `Parts`.
-#[derive(Clone, Copy)]
-pub struct Progress {
-    pub refusal: u32,
-    pub value: u32,
-    pub opened: u32,
-    pub end: u16,
-}
-
-// Takes one server for one id: it is opened if no entry of the id was met yet and it is read for the id.
+// Takes one server for one id, of which this is the answer so far and the end: the server is opened if no entry of the id was met
+// yet and it is read for the id.
 fn step(
-    progress: Progress,
+    answer: &mut LookupAnswer,
+    end: &mut u16,
     table: &View<'_>,
     steps: &Steps,
     medium: &[u32],
     id: u32,
     server: usize,
-) -> Progress
+)
     requires inside { Inside table.now.shape.capacity server medium.now }
     requires used_le_capacity { used_of (table_of table.now) server ≤ table.now.shape.capacity }
-    requires opened_le_max_servers { progress.opened ≤ max_servers }
-    ensures { result
-        ≡ stepped (read_p (table_of table.now) server) table.now.shape (used_of (table_of table.now) server) medium.now id server progress }
+    requires opened_le_max_servers { answer.old.opened ≤ max_servers }
+    ensures { progress_of answer.new end.new
+        ≡ stepped (read_p (table_of table.now) server) table.now.shape (used_of (table_of table.now) server) medium.now id server
+        (progress_of answer.old end.old) }
 {
     let shape = table.shape;
-    if progress.refusal != 8 {
-        return progress;
+    if answer.value != Err(Refusal::NotFound) {
+        return;
     }
     if !placement::takes(table.read_p(server), steps, shape.salt, id, server) {
-        return progress;
+        return;
     }
-    let opened = progress.opened + 1;
-    let end = server as u16 + 1;
+    answer.opened += 1;
+    *end = server as u16 + 1;
     let used = table.used[server] as usize;
-    match scan::newest(medium, shape.capacity as usize, used, id, server) {
-        None => Progress {
-            refusal: 8,
-            value: 0,
-            opened,
-            end,
-        },
-        Some(entry) => {
-            let value = lookup::met(shape.capacity, medium, Place { server, entry });
-            let reply = replies::lookup_reply(LookupAnswer {
-                value,
-                opened: opened as usize,
-            });
-            Progress {
-                refusal: reply.refusal,
-                value: reply.value,
-                opened,
-                end,
-            }
-        }
+    if let Some(entry) = scan::newest(medium, shape.capacity as usize, used, id, server) {
+        answer.value = lookup::met(shape.capacity, medium, Place { server, entry });
     }
 }
 
@@ -83,21 +60,20 @@ pub fn step_all(
     requires inside { Inside table.now.shape.capacity server medium.now }
     requires used_le_capacity { used_of (table_of table.now) server ≤ table.now.shape.capacity }
     requires ids_len_bound { length ids.now ≤ max_ids }
-    requires by_index { (i : ℕ) → i < length ids.now → nth parts.old.opened i ≤ max_servers }
-    ensures { parts.new
-        ≡ stepped_all (read_p (table_of table.now) server) table.now.shape (used_of (table_of table.now) server) medium.now ids.now server parts.old }
+    requires by_index { (i : ℕ) → i < length ids.now → nth (columns_of parts.old).opened i ≤ max_servers }
+    ensures { columns_of parts.new
+        ≡ stepped_all (read_p (table_of table.now) server) table.now.shape (used_of (table_of table.now) server) medium.now ids.now server
+        (columns_of parts.old) }
 {
     for (i, id) in ids.iter().enumerate() {
-        let before = Progress {
-            refusal: parts.refusals[i],
-            value: parts.values[i],
-            opened: parts.opened[i],
-            end: parts.ends[i],
-        };
-        let after = step(before, table, steps, medium, *id, server);
-        parts.refusals[i] = after.refusal;
-        parts.values[i] = after.value;
-        parts.opened[i] = after.opened;
-        parts.ends[i] = after.end;
+        step(
+            &mut parts.answers[i],
+            &mut parts.ends[i],
+            table,
+            steps,
+            medium,
+            *id,
+            server,
+        );
     }
 }

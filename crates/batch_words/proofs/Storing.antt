@@ -2,14 +2,13 @@
 -- Assumes nothing.
 use Prim.Native.Nat.{ℕ, zero, suc, ◌*◌, ◌/◌, ◌≤◌, ◌<◌}
 use mathlib.Core.Path.{◌≡◌, refl, sym, ap, ap₂, ◌∙◌}
-use mathlib.Core.Logic.{◌≢◌}
 use mathlib.Core.Bool.{Bool, true, false, not, ◌&&◌}
 use mathlib.Core.List.{List}
 use native.Mathlib.Omega.{arith}
-use lib.ListN.{length, set, replicate, length-replicate}
-use lib.Seq.{length-sets}
+use lib.ListN.{length, set, get_or, take}
+use lib.Seq.{get_or-take}
 use lib.Dec.{leb, eqb}
-use borrow.Author.Tests.{le-leb, lt-leb, leb-true, ltb-false, eqb-true, eqb-false, eq-eqb, ne_eqb}
+use borrow.Author.Tests.{le-leb, lt-leb, leb-true, ltb-false, eqb-true, eqb-false, ne_eqb}
 use Rattle.limits.specs.Limits.{max_ids}
 use Rattle.lists.specs.Below.{nth, total, set_below}
 use Rattle.lists.proofs.Tests.{and_l, and_r, by_bool}
@@ -18,15 +17,22 @@ use Rattle.table.specs.Sound.{sound}
 use Rattle.table_words.specs.Words.{table_length, table_from, with_table}
 use Rattle.upkeep.specs.Upkeep.{with_opened}
 use Rattle.replies.specs.declared.Reply.{Reply}
+use Rattle.replies.specs.declared.Refusal.{Refusal}
+use Rattle.replies.specs.declared.LookupAnswer.{LookupAnswer}
+use Rattle.replies.specs.Reply.{number_of, found_or, reply_of_lookup}
+use Rattle.replies.proofs.Answers.{number-not-zero}
+use Rattle.std.specs.Prelude.{Result, Ok, Err}
+use Rattle.batch_answer.proofs.Columns.{column-at}
+use Rattle.batch.proofs.Counting.{counted-whole}
 use Rattle.replies.specs.Refusal.{first_of}
 use Rattle.replies.proofs.Refusals.{settle-yes, settle-no, passed}
 use Rattle.lookup.specs.Lookup.{lookup_reply}
 use Rattle.lookup.proofs.Plain.{lookup-plain}
 use Rattle.batch_answer.specs.declared.Batch.{Batch}
-use Rattle.batch_answer.specs.Answer.{order, batch_by, opened_in, too_long, refused_batch, settled_batch}
+use Rattle.batch_answer.specs.Answer.{BatchReply, opened_of, reply_of_batch, order, batch_by, too_long, refused_batch, settled_batch}
 use Rattle.batch_answer.proofs.Filled.{filled_at}
 use Rattle.batch_answer.proofs.Orders.{mounts-few}
-use Rattle.batch.specs.Batch.{opened_at, batch_rows, batch_reply, batch_table}
+use Rattle.batch.specs.Batch.{opened_at, batch_rows, batch_reply}
 use Rattle.archive.proofs.Small.{lookup-small}
 use Rattle.encoding.specs.Encoding.{reply_length, too_short, with_reply}
 use Rattle.replay.specs.Replay.{with_replies}
@@ -70,46 +76,80 @@ module _ (n : ℕ) (table replies order mounts : List ℕ) where
       }
 
 -- the answer to a list that is not refused
-module _ (t : Table) (m : List ℕ) (tenant : ℕ) (ids : List ℕ) (b : Batch) (is : b ≡ batch_reply t m tenant ids) where
+module _ (t : Table) (m : List ℕ) (tenant : ℕ) (ids : List ℕ) (a : BatchReply) (is : a ≡ batch_reply t m tenant ids) where
   -- a refused list's answer has its number
-  accepted-rows : b.refusal ≡ 0 → first_of (batch_rows t ids) ≡ 0
+  accepted-rows : a.refusal ≡ 0 → first_of (batch_rows t ids) ≡ 0
   unfolding batch_reply settled_batch
   accepted-rows z = by_bool (eqb (first_of (batch_rows t ids)) 0)
       (λ e. eqb-true _ 0 e)
-      (λ e. let f : b ≡ refused_batch (first_of (batch_rows t ids)) = is ∙ settle-no (batch_rows t ids) _ _ (eqb-false _ 0 e) in sym (ap (λ (x : Batch). x.refusal) f) ∙ z)
+      (λ e. let f : a ≡ refused_batch (first_of (batch_rows t ids)) = is ∙ settle-no (batch_rows t ids) _ _ (eqb-false _ 0 e) in sym (ap (λ (x : BatchReply). x.refusal) f) ∙ z)
 
-  module _ (z : b.refusal ≡ 0) where
-    pub few-ids : length ids ≤ 256
+  module _ (z : a.refusal ≡ 0) where
+    few : length ids ≤ 256
     unfolding batch_rows too_long
-    few-ids = ltb-false 256 (length ids) (passed 1 (too_long ids) _ (passed 0 (too_long ids && not (sound t)) _ (accepted-rows z)).1).0
+    few = ltb-false 256 (length ids) (passed 1 (too_long ids) _ (passed 0 (too_long ids && not (sound t)) _ (accepted-rows z)).1).0
 
     -- its parts
-    whole : b ≡ batch_by (λ i. (lookup_reply t m tenant (nth ids i)).refusal) (λ i. (lookup_reply t m tenant (nth ids i)).value) (λ i. (lookup_reply t m tenant (nth ids i)).opened) (opened_at t m tenant ids) (length ids) t.count
+    whole : a ≡ batch_by (λ i. (lookup_reply t m tenant (nth ids i)).refusal) (λ i. (lookup_reply t m tenant (nth ids i)).value) (λ i. (lookup_reply t m tenant (nth ids i)).opened) (opened_at t m tenant ids) (length ids) t.count
     unfolding batch_reply settled_batch
     whole = is ∙ settle-yes (batch_rows t ids) _ _ (accepted-rows z)
 
-    -- the part of each id is the reply to a lookup of it alone
-    pub part-is : (i : ℕ) → i < length ids → lookup_part b i ≡ lookup_reply t m tenant (nth ids i)
-    unfolding lookup_part batch_by
-    part-is i l =
-        let r = lookup_reply t m tenant (nth ids i) in
-        let p = lookup-plain t m tenant (nth ids i) in
-        let x = ap (λ (c : Batch). nth c.refusals i) whole ∙ filled_at (λ j. (lookup_reply t m tenant (nth ids j)).refusal) (length ids) few-ids i l in
-        let y = ap (λ (c : Batch). nth c.values i) whole ∙ filled_at (λ j. (lookup_reply t m tenant (nth ids j)).value) (length ids) few-ids i l in
-        let o = ap (λ (c : Batch). nth c.opened i) whole ∙ filled_at (λ j. (lookup_reply t m tenant (nth ids j)).opened) (length ids) few-ids i l in
-        λ k. record { refusal = x k; server = sym p.server k; value = y k; opened = o k; invalidated = sym p.invalidated k }
+    -- the part of each id is that of a lookup of it alone
+    record Alone (i : ℕ) : Type 0 where
+      refusal : nth a.refusals i ≡ (lookup_reply t m tenant (nth ids i)).refusal
+      value : nth a.values i ≡ (lookup_reply t m tenant (nth ids i)).value
+      opened : nth a.opened i ≡ (lookup_reply t m tenant (nth ids i)).opened
 
-    pub opened-small : (i : ℕ) → i < length ids → nth b.opened i < 4294967296
-    unfolding lookup_part
-    opened-small i l = omega (arith, (lookup-small t m tenant (nth ids i)).opened, ap (λ (r : Reply). r.opened) (part-is i l))
-
-    pub mounts-small : t.count < 4294967296 → b.mounts < 4294967296
+    alone : (i : ℕ) → i < length ids → Alone i
     unfolding batch_by
-    mounts-small l = omega (arith, ap (λ (c : Batch). c.mounts) whole, mounts-few (opened_at t m tenant ids) (length ids) t.count)
+    alone i l = record {
+      refusal = ap (λ (c : BatchReply). nth c.refusals i) whole ∙ filled_at (λ j. (lookup_reply t m tenant (nth ids j)).refusal) (length ids) few i l;
+      value = ap (λ (c : BatchReply). nth c.values i) whole ∙ filled_at (λ j. (lookup_reply t m tenant (nth ids j)).value) (length ids) few i l;
+      opened = ap (λ (c : BatchReply). nth c.opened i) whole ∙ filled_at (λ j. (lookup_reply t m tenant (nth ids j)).opened) (length ids) few i l;
+    }
 
-    pub length-order : length b.order ≡ 256
+    few-mounts : t.count < 4294967296 → a.mounts < 4294967296
     unfolding batch_by
-    length-order = ap (λ (c : Batch). length c.order) whole ∙ length-sets (replicate 256 0) 0 (order (opened_at t m tenant ids) (length ids) t.count) ∙ length-replicate {A = ℕ} 256 0
+    few-mounts l = omega (arith, ap (λ (c : BatchReply). c.mounts) whole, mounts-few (opened_at t m tenant ids) (length ids) t.count)
+
+-- a reply to a lookup carries no server and no invalidations
+answer-plain : (v : Result ℕ Refusal) (n : ℕ) → ((found_or v n).server ≡ 0) × ((found_or v n).invalidated ≡ 0)
+unfolding found_or
+answer-plain (Ok v) n = (refl, refl)
+answer-plain (Err r) n = (refl, refl)
+
+-- the same of the code's answer
+module _ (t : Table) (m : List ℕ) (tenant : ℕ) (ids : List ℕ) {a : Result Batch Refusal} (is : reply_of_batch a ≡ batch_reply t m tenant ids) {b : Batch} (f : a ≡ Ok b) where
+  answered : reply_of_batch (Ok b) ≡ batch_reply t m tenant ids
+  answered = sym (ap reply_of_batch f) ∙ is
+
+  no_refusal : (reply_of_batch (Ok b)).refusal ≡ 0
+  unfolding reply_of_batch
+  no_refusal = refl
+
+  pub few-ids : length ids ≤ 256
+  few-ids = few t m tenant ids _ answered no_refusal
+
+  pub part-is : (i : ℕ) → i < length ids → lookup_part b.answers i ≡ lookup_reply t m tenant (nth ids i)
+  unfolding lookup_part reply_of_batch reply_of_lookup found_or
+  part-is i l =
+      let d : LookupAnswer = record { value = Ok 0; opened = 0 } in
+      let o = get_or b.answers i d in
+      let q = answer-plain o.value o.opened in
+      let p = lookup-plain t m tenant (nth ids i) in
+      let s = alone t m tenant ids _ answered no_refusal i l in
+      let x = sym (column-at (λ (r : Reply). r.refusal) b.answers i d refl) ∙ s.refusal in
+      let y = sym (column-at (λ (r : Reply). r.value) b.answers i d refl) ∙ s.value in
+      let w = sym (column-at (λ (r : Reply). r.opened) b.answers i d refl) ∙ s.opened in
+      λ k. record { refusal = x k; server = (q.0 ∙ sym p.server) k; value = y k; opened = w k; invalidated = (q.1 ∙ sym p.invalidated) k }
+
+  pub opened-small : (i : ℕ) → i < length ids → nth (opened_of b.answers) i < 4294967296
+  unfolding reply_of_batch
+  opened-small i l = omega (arith, (lookup-small t m tenant (nth ids i)).opened, (alone t m tenant ids _ answered no_refusal i l).opened)
+
+  pub mounts-small : t.count < 4294967296 → b.mounts < 4294967296
+  unfolding reply_of_batch
+  mounts-small l = few-mounts t m tenant ids _ answered no_refusal l
 
 -- replies that are the same by position
 replies-same : (f g : ℕ → Reply) (n : ℕ) (words : List ℕ) → ((i : ℕ) → i < n → f i ≡ g i) → with_replies f n words ≡ with_replies g n words
@@ -131,25 +171,40 @@ module _ (table m : List ℕ) (tenant : ℕ) (ids replies order mounts : List �
   unfolding after_batch
   batch-short e = let f : fits_batch (length ids) table replies order mounts ≡ false = sym told ∙ e in rw f (refl, (refl, (refl, (refl, refl))))
 
-  module _ (yes : long ≡ true) (b : Batch) (is : b ≡ batch_reply (table_from table) m tenant ids) where
-    stored : after_batch table m tenant ids replies order mounts ≡ batch_stored table m tenant ids replies order mounts b
+  module _ (yes : long ≡ true) (a : Result Batch Refusal) (is : reply_of_batch a ≡ batch_reply (table_from table) m tenant ids) where
+    stored : after_batch table m tenant ids replies order mounts ≡ batch_stored table m tenant ids replies order mounts (reply_of_batch a)
     unfolding after_batch
     stored = let f : fits_batch (length ids) table replies order mounts ≡ true = sym told ∙ yes in rw (f, is)
 
-    pub batch-refused : b.refusal ≢ 0 → Done table m tenant ids replies order mounts b.refusal table replies order mounts
-    unfolding batch_stored
-    batch-refused f = rw (stored, ne_eqb b.refusal 0 f) (refl, (refl, (refl, (refl, refl))))
+    pub batch-refused : {r : Refusal} → a ≡ Err r → Done table m tenant ids replies order mounts (number_of r) table replies order mounts
+    unfolding batch_stored reply_of_batch
+    batch-refused {r} f = rw (stored, f, ne_eqb (number_of r) 0 (number-not-zero r)) (refl, (refl, (refl, (refl, refl))))
 
-    -- the counter takes the sum of the opened counts
-    counted : (opened : ℕ) → opened ≡ total (nth b.opened) max_ids → with_opened (table_from table) tenant opened ≡ batch_table (table_from table) m tenant ids
-    unfolding batch_table opened_in
-    counted opened o = ap (with_opened (table_from table) tenant) (o ∙ ap (λ (x : Batch). total (nth x.opened) max_ids) is)
-
-    pub batch-done : b.refusal ≡ 0 → (opened : ℕ) → opened ≡ total (nth b.opened) max_ids → (table' replies' order' mounts' : List ℕ)
+    pub batch-done : {b : Batch} → a ≡ Ok b → (opened : ℕ) → opened ≡ total (nth (opened_of b.answers)) max_ids → (table' replies' order' mounts' : List ℕ)
         → table' ≡ with_table table (with_opened (table_from table) tenant opened)
-        → replies' ≡ with_replies (lookup_part b) (length ids) replies → order' ≡ set_below (nth b.order) (length ids) order → mounts' ≡ set mounts 0 b.mounts
+        → replies' ≡ with_replies (lookup_part b.answers) (length ids) replies → order' ≡ set_below (nth b.order) (length ids) order → mounts' ≡ set mounts 0 b.mounts
         → Done table m tenant ids replies order mounts 0 table' replies' order' mounts'
-    unfolding batch_stored
-    batch-done z opened o table' replies' order' mounts' t x y w =
-        rw (stored, eq-eqb b.refusal 0 z)
-        (refl, (t ∙ ap (with_table table) (counted opened o), (x ∙ replies-same (lookup_part b) _ (length ids) replies (part-is (table_from table) m tenant ids b is z), (y, w))))
+    unfolding batch_stored reply_of_batch
+    batch-done {b} f opened o table' replies' order' mounts' t x y w =
+        let s = counted-whole (table_from table) m tenant ids is f o in
+        rw (stored, f)
+        (refl, (t ∙ ap (with_table table) s, (x ∙ replies-same (lookup_part b.answers) _ (length ids) replies (part-is (table_from table) m tenant ids is f), (y, w))))
+
+-- the answer at a position of the first n, as a loop over them reads it
+module _ (answers : List LookupAnswer) (n i : ℕ) (l : i < n) where
+  abbrev read : LookupAnswer
+  read = get_or (take n answers) i (record { value = Ok 0; opened = 0 })
+
+  pub part-read : reply_of_lookup read ≡ lookup_part answers i
+  unfolding lookup_part
+  part-read = ap reply_of_lookup (get_or-take n answers i (record { value = Ok 0; opened = 0 }) l)
+
+  pub read-fits : nth (opened_of answers) i < 4294967296
+      → ((reply_of_lookup read).server < 4294967296) × ((reply_of_lookup read).opened < 4294967296) × ((reply_of_lookup read).invalidated < 4294967296)
+  unfolding reply_of_lookup found_or
+  read-fits s =
+      let d : LookupAnswer = record { value = Ok 0; opened = 0 } in
+      let same = get_or-take n answers i d l in
+      let p = answer-plain read.value read.opened in
+      let o : (found_or read.value read.opened).opened ≡ nth (opened_of answers) i = ap (λ (a : LookupAnswer). (reply_of_lookup a).opened) same ∙ sym (column-at (λ (r : Reply). r.opened) answers i d refl) in
+      (omega (arith, p.0), omega (arith, o, s), omega (arith, p.1))

@@ -5,6 +5,7 @@ ghost use Rattle.std.specs.Prelude.{◌≡◌, ℕ, ◌≤◌, ◌<◌, ◌*◌,
 ghost use Rattle.limits.specs.Limits.{max_ids};
 ghost use Rattle.lists.specs.Below.{nth, set_below};
 ghost use Rattle.table_words.specs.Words.{table_length, table_from};
+ghost use Rattle.batch_answer.specs.Answer.{opened_of, reply_of_batch};
 ghost use Rattle.batch.specs.Batch.{batch_reply};
 ghost use Rattle.encoding.specs.Encoding.{reply_length};
 ghost use Rattle.replay.specs.Replay.{with_replies};
@@ -13,11 +14,8 @@ ghost use Rattle.batch_words.specs.BatchWords.{lookup_part, fits_batch, after_ba
 use batch_answer::Batch;
 use encoding::REPLY_LENGTH;
 use limits::MAX_IDS;
-use replies::Reply;
+use replies::{LookupAnswer, Refusal};
 use table_words::TABLE_LENGTH;
-
-// The refusal number of a list that is not refused.
-const ACCEPTED: u32 = 0;
 
 // Whether the runs are long enough for a batch of `n` ids.
 #[tactic(auto, unfolding(crate::specs::BatchWords::fits_batch))]
@@ -31,21 +29,14 @@ fn fits(table: &[u32], n: usize, replies: &[u32], order: &[u32], mounts: &[u32])
 }
 
 // Stores the reply to each of the first `n` ids.
-fn store_replies(batch: Batch, n: usize, replies: &mut [u32])
+fn store_replies(answers: &[LookupAnswer; MAX_IDS], n: usize, replies: &mut [u32])
     requires n_le_max_ids { n ≤ max_ids }
     requires n_in_bounds { reply_length * n ≤ length replies.old }
-    requires by_index { (i : ℕ) → i < n → nth batch.opened i < 4294967296 }
-    ensures { replies.new ≡ with_replies (lookup_part batch) n replies.old }
+    requires by_index { (i : ℕ) → i < n → nth (opened_of answers.now) i < 4294967296 }
+    ensures { replies.new ≡ with_replies (lookup_part answers.now) n replies.old }
 {
-    for i in 0..n {
-        let reply = Reply {
-            refusal: batch.refusals[i],
-            server: 0,
-            value: batch.values[i],
-            opened: batch.opened[i] as usize,
-            invalidated: 0,
-        };
-        encoding::store(replies, REPLY_LENGTH * i, reply);
+    for (i, answer) in answers[..n].iter().enumerate() {
+        encoding::store(replies, REPLY_LENGTH * i, replies::lookup_reply(*answer));
     }
 }
 
@@ -60,9 +51,9 @@ fn store_front(array: &[u32; MAX_IDS], n: usize, words: &mut [u32])
 }
 
 // Looks many ids up together for a tenant on the table where it lies. The caller counts the servers that were opened.
-fn look_up(words: &[u32], medium: &[u32], tenant: u32, ids: &[u32]) -> Batch
+fn look_up(words: &[u32], medium: &[u32], tenant: u32, ids: &[u32]) -> Result<Batch, Refusal>
     requires { table_length ≤ length words.now }
-    ensures reply { result ≡ batch_reply (table_from words.now) medium.now tenant ids.now }
+    ensures reply { reply_of_batch result ≡ batch_reply (table_from words.now) medium.now tenant ids.now }
     ensures count { (table_from words.now).count < 4294967296 }
 {
     batch::lookup_batch_in(&table_words::view_of(words), medium, tenant, ids)
@@ -99,13 +90,13 @@ pub fn lookup_batch(
     if !fits(table, n, replies, order, mounts) {
         return encoding::TOO_SHORT;
     }
-    let batch = look_up(table, medium, tenant, ids);
-    if batch.refusal != ACCEPTED {
-        return batch.refusal;
-    }
-    store_replies(batch, n, replies);
+    let batch = match look_up(table, medium, tenant, ids) {
+        Ok(batch) => batch,
+        Err(refusal) => return refusal.number(),
+    };
+    store_replies(&batch.answers, n, replies);
     store_front(&batch.order, n, order);
     mounts[0] = batch.mounts as u32;
-    call_words::count_opened(table, tenant, batch_answer::sum(&batch.opened));
+    call_words::count_opened(table, tenant, batch_answer::sum(&batch.answers));
     0
 }

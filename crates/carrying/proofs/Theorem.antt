@@ -11,8 +11,7 @@ use Rattle.table.specs.declared.Table.{Table}
 use Rattle.table.specs.Sound.{sound}
 use Rattle.table.proofs.Soundness.{Arrays}
 use Rattle.replies.specs.declared.Reply.{Reply}
-use Rattle.batch_answer.specs.declared.Batch.{Batch}
-use Rattle.batch_answer.specs.Answer.{opened_in}
+use Rattle.batch_answer.specs.Answer.{BatchReply, opened_in}
 use Rattle.batch.specs.Batch.{batch_reply}
 use Rattle.recovery.specs.Recovery.{recover_table}
 use Rattle.archive.proofs.BelowCount.{Alike, recover-below, add_server-below, reweight-below, write-below, delete-below, lookup-below, lookup-alike, batch-below, batch-alike}
@@ -46,7 +45,7 @@ step t u m a (lookup caller id) =
     record { same = e; alike = lookup-alike t u a m caller id; medium = refl; opened = λ tenant. ap (λ (r : Reply). cond (eqb caller tenant) r.opened 0) e }
 step t u m a (batch caller ids) =
     let e = batch-below t u a.agree a.is_sound m caller ids in
-    record { same = ap in_brief e; alike = batch-alike t u a m caller ids; medium = refl; opened = λ tenant. ap (λ (b : Batch). cond (eqb caller tenant) (opened_in b) 0) e }
+    record { same = ap in_brief e; alike = batch-alike t u a m caller ids; medium = refl; opened = λ tenant. ap (λ (b : BatchReply). cond (eqb caller tenant) (opened_in b) 0) e }
 
 -- the reply to a turn's call, where it did not crash, before the replies to later turns
 unfoldable replies_with : State → Turn → List Reply → List Reply

@@ -16,8 +16,7 @@ use Rattle.lookup.specs.Lookup.{lookup_rows}
 use Rattle.lookup.proofs.Passed.{lookup-asked}
 use Rattle.batch_answer.proofs.Orders.{batch-cong}
 use Rattle.batch.specs.Batch.{lookup_opens, opened_at, batch_reply, batch_rows, batch_table}
-use Rattle.batch_answer.specs.Answer.{too_long, batch_by, settled_batch}
-use Rattle.batch_answer.specs.declared.Batch.{Batch}
+use Rattle.batch_answer.specs.Answer.{BatchReply, too_long, batch_by, settled_batch}
 use Rattle.replies.specs.Refusal.{first_of, settle}
 use Rattle.history.specs.Call.{batch, Compared, compared}
 use Rattle.history.specs.Machine.{in_brief}
@@ -57,7 +56,7 @@ module _ {t : Table} {m : List ℕ} {L : Ledger} (A : Agree t m L) where
   pub batch-step : (tenant : ℕ) (ids : List ℕ) → Step (in_brief (batch_reply t m tenant ids)) (batch_table t m tenant ids) m (enter L (batch tenant ids))
   unfolding enter rows_of done_of compared batch_table
   batch-step tenant ids =
-      let e = ap (λ (b : Batch). b.refusal) (same-batch tenant ids) ∙ batch-number tenant ids in
+      let e = ap (λ (b : BatchReply). b.refusal) (same-batch tenant ids) ∙ batch-number tenant ids in
       entered (Step (in_brief (batch_reply t m tenant ids)) (batch_table t m tenant ids) m) L (batch_rows_l ids) _
       (λ z. record { alike = ap (λ (n : ℕ). told n 0 0 0) (e ∙ z); agrees = agree-opened A tenant _ })
       (λ f. record { alike = ap (λ (n : ℕ). told n 0 0 0) e; agrees = agree-opened A tenant _ })

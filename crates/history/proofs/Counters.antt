@@ -32,8 +32,7 @@ use Rattle.planning.specs.WriteRows.{write_rows}
 use Rattle.writing.specs.Writing.{write_reply, write_table, write_medium}
 use Rattle.server_rows.specs.ServerRows.{start_rows, add_server_rows, reweight_rows}
 use Rattle.servers.specs.Servers.{start_table, add_server_reply, add_server_table, reweight_reply, reweight_table}
-use Rattle.batch_answer.specs.declared.Batch.{Batch}
-use Rattle.batch_answer.specs.Answer.{batch_by, settled_batch}
+use Rattle.batch_answer.specs.Answer.{BatchReply, batch_by, settled_batch}
 use Rattle.batch.specs.Batch.{batch_rows, batch_reply, batch_table}
 use Rattle.batch.proofs.Counting.{batch-left}
 use Rattle.recovery.specs.Recovery.{recover_table}
@@ -119,7 +118,7 @@ counters capacity salt m turns = record {
 -- a batch that is not refused as a whole
 answered : (t : Table) (m : List ℕ) (caller : ℕ) (ids : List ℕ) → (batch_reply t m caller ids).refusal ≢ 0 → first_of (batch_rows t ids) ≢ 0
 unfolding batch_reply settled_batch batch_by
-answered t m caller ids n z = n (ap (λ (b : Batch). b.refusal) (settle-yes (batch_rows t ids) _ _ z))
+answered t m caller ids n z = n (ap (λ (b : BatchReply). b.refusal) (settle-yes (batch_rows t ids) _ _ z))
 
 -- a refused call: its rows refuse it, where what it would reply is no refusal
 by_rows : (rows : List Row) (done r : Reply) → r ≡ reply_by rows done → done.refusal ≡ 0 → r.refusal ≢ 0 → first_of rows ≢ 0

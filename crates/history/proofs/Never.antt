@@ -13,8 +13,7 @@ use Rattle.lists.specs.Below.{nth}
 use Rattle.lists.proofs.Tests.{by_bool, and_l, and_r}
 use Rattle.lists.proofs.Below.{nth-zeros}
 use Rattle.replies.specs.Refusal.{Row, first_of, settle}
-use Rattle.batch_answer.specs.declared.Batch.{Batch}
-use Rattle.batch_answer.specs.Answer.{batch_by, too_long, settled_batch}
+use Rattle.batch_answer.specs.Answer.{BatchReply, batch_by, too_long, settled_batch}
 use Rattle.batch_answer.proofs.Filled.{filled-each}
 use Rattle.history.specs.Call.{Call, add_server, reweight, write, delete, lookup, batch, Compared, compared}
 use Rattle.history.specs.Machine.{State, reply, id_refusals, refusals}
@@ -81,7 +80,7 @@ module _ (S : State) (L : Ledger) (A : Agrees S L) where
   ids-never (write tenant id value) i = refl
   ids-never (delete tenant id) i = refl
   ids-never (lookup tenant id) i = refl
-  ids-never (batch tenant ids) i = subst (λ (b : Batch). usual (nth b.refusals i) ≡ true) (sym (same-batch A tenant ids)) (ids-usual L tenant ids i)
+  ids-never (batch tenant ids) i = subst (λ (b : BatchReply). usual (nth b.refusals i) ≡ true) (sym (same-batch A tenant ids)) (ids-usual L tenant ids i)
 
   pub never : (c : Call) (i : ℕ) → let number = nth (refusals S c) i in (number ≢ 1) × (number ≢ 7) × (number ≢ 10)
   unfolding refusals compared

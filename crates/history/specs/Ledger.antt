@@ -9,8 +9,7 @@ use Rattle.placement.specs.declared.Fraction.{Fraction}
 use Rattle.placement.specs.Fraction.{raise}
 use Rattle.placement.specs.Rule.{write_p, write_server, readable}
 use Rattle.replies.specs.Refusal.{Row, ◌when◌, first_of, settle}
-use Rattle.batch_answer.specs.declared.Batch.{Batch}
-use Rattle.batch_answer.specs.Answer.{batch_by, too_long, settled_batch}
+use Rattle.batch_answer.specs.Answer.{BatchReply, batch_by, too_long, settled_batch}
 use Rattle.history.specs.Call.{Call, add_server, reweight, write, delete, lookup, batch, Heard, heard, heard_write, heard_delete, Compared}
 
 -- an accepted write (id, value, server), an accepted delete, or an entry of a server that a crashed write spent in vain
@@ -212,7 +211,7 @@ opened_at_l L tenant ids i k = opens_l L tenant (nth ids i) k
 unfoldable pub batch_rows_l : List ℕ → List Row
 batch_rows_l ids = 2 when too_long ids ∷ []
 
-unfoldable pub batch_l : Ledger → ℕ → List ℕ → Batch
+unfoldable pub batch_l : Ledger → ℕ → List ℕ → BatchReply
 batch_l L tenant ids =
     settled_batch (batch_rows_l ids)
     (batch_by

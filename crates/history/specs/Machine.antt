@@ -15,7 +15,7 @@ use Rattle.planning.specs.WriteRows.{write_rows}
 use Rattle.writing.specs.Writing.{write_burns, write_reply, write_table, write_medium, write_some_medium}
 use Rattle.recovery.specs.Recovery.{recover_table}
 use Rattle.servers.specs.Servers.{start_table, add_server_reply, add_server_table, reweight_reply, reweight_table}
-use Rattle.batch_answer.specs.declared.Batch.{Batch}
+use Rattle.batch_answer.specs.Answer.{BatchReply}
 use Rattle.batch.specs.Batch.{batch_reply, batch_table}
 use Rattle.history.specs.Beam.{Beam, under_beam}
 use Rattle.history.specs.Call.{Call, add_server, reweight, write, delete, lookup, batch, Turn, plain, crashed_write, crashed_delete}
@@ -25,7 +25,7 @@ pub record State : Type 0 where
   pub medium : List ℕ
 
 -- a batch in one reply: its refusal number
-abbrev pub in_brief : Batch → Reply
+abbrev pub in_brief : BatchReply → Reply
 in_brief b = refused b.refusal 0
 
 unfoldable pub reply : State → Call → Reply

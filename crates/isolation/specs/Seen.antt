@@ -1,7 +1,7 @@
 -- What a tenant, the paper's club, sees of a list of calls, which of these must be accepted alike, and what it hears.
 use Rattle.std.specs.Prelude.{ℕ, Bool, true, false, cond, ◌&&◌, List, [], ◌∷◌, eqb}
 use Rattle.replies.specs.declared.Reply.{Reply}
-use Rattle.batch_answer.specs.declared.Batch.{Batch}
+use Rattle.batch_answer.specs.Answer.{BatchReply}
 use Rattle.batch.specs.Batch.{batch_reply}
 use Rattle.history.specs.Call.{Call, add_server, reweight, write, delete, lookup, batch}
 use Rattle.history.specs.Machine.{State, reply, next}
@@ -42,7 +42,7 @@ shown c r = record {
 -- what is heard: the reply to a call as far as it is shown, or the whole answer to a batch
 pub data Heard : Type 0 where
   to_call : Reply → Heard
-  to_batch : Batch → Heard
+  to_batch : BatchReply → Heard
 
 abbrev pub hears_reply : State → Call → Heard
 hears_reply S c = to_call (shown c (reply S c))

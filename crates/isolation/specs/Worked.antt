@@ -3,7 +3,7 @@
 use Rattle.std.specs.Prelude.{◌≡◌, true, false, List, [], ◌∷◌, replicate}
 use Rattle.table.specs.Parts.{opened_of}
 use Rattle.replies.specs.Reply.{refused, on_server, found}
-use Rattle.batch_answer.specs.declared.Batch.{Batch}
+use Rattle.batch_answer.specs.Answer.{BatchReply}
 use Rattle.history.specs.Call.{Call, add_server, reweight, write, delete, lookup, batch}
 use Rattle.history.specs.Machine.{after, begin}
 use Rattle.isolation.specs.Seen.{Heard, to_call, to_batch, seen, verdicts, heard}
@@ -42,7 +42,7 @@ among =
     ∷ []
 
 -- tenant 4's batch of its own id and of tenant 0's: for the second, 11, no server is opened, and it comes first in the order
-unfoldable pub both : Batch
+unfoldable pub both : BatchReply
 both = record {
   refusal = 0;
   mounts = 1;

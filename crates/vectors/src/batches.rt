@@ -5,16 +5,17 @@ use batch_answer::Batch;
 use vectors_calls::{Answer, Archive, Command};
 
 // 2 is the mounts, 3 refusal, value and opened count at a position, 4 the refusal at it, 5 the position that is found at this place;
-// the others are the refusal of the whole batch.
+// the others are the refusal of the whole batch, which there is none of.
 fn part(batch: &Batch, letter: u8, i: usize) -> Answer<'static>
     requires { i < 256 }
 {
+    let reply = replies::lookup_reply(batch.answers[i]);
     match letter {
         b'2' => Answer::Number(batch.mounts as u64),
-        b'3' => Answer::Three(batch.refusals[i], batch.values[i], batch.opened[i]),
-        b'4' => Answer::Number(u64::from(batch.refusals[i])),
+        b'3' => Answer::Three(reply.refusal, reply.value, reply.opened as u64),
+        b'4' => Answer::Number(u64::from(reply.refusal)),
         b'5' => Answer::Number(u64::from(batch.order[i])),
-        _ => Answer::Number(u64::from(batch.refusal)),
+        _ => Answer::Number(0),
     }
 }
 
@@ -27,5 +28,8 @@ pub fn call(archive: &mut Archive, command: Command) -> Answer<'static> {
         b'7' => batch::lookup_batch(table, medium, 0, &[2; 257]),
         _ => batch::lookup_batch(table, medium, numbers[6], &numbers[..5]),
     };
-    part(&batch, command.letter, (numbers[5] % 256) as usize)
+    match batch {
+        Ok(batch) => part(&batch, command.letter, (numbers[5] % 256) as usize),
+        Err(refusal) => Answer::Number(u64::from(refusal.number())),
+    }
 }

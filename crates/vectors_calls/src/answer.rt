@@ -11,7 +11,7 @@ pub enum Answer<'a> {
     Number(u64),
     // A refusal and how many there are, of an image's words or of a table's servers.
     Counted(u32, usize),
-    Three(u32, u32, u32),
+    Three(u32, u32, u64),
     Words(&'a [u32]),
     Reply(Reply),
 }

@@ -42,7 +42,7 @@ impl Archive {
         let started = servers::start(capacity, salt);
         let refusal = replies::check_number(&started);
         self.table = started.unwrap_or(table::empty(0, 0));
-        Answer::Three(refusal, self.table.capacity, self.table.salt)
+        Answer::Three(refusal, self.table.capacity, u64::from(self.table.salt))
     }
 
     // Adds this many servers of weight 1.

@@ -2,7 +2,7 @@
 use Prim.Native.Nat.{ℕ, suc, ◌+◌, ◌-◌}
 use mathlib.Core.Bool.{false, cond}
 use mathlib.Core.List.{List}
-use mathlib.Core.Path.{◌≡◌, ◌∙◌}
+use mathlib.Core.Path.{◌≡◌, ap, ◌∙◌}
 use native.Mathlib.Omega.{arith}
 use lib.Dec.{eqb}
 use Rattle.lists.specs.Below.{nth}
@@ -11,12 +11,14 @@ use Rattle.table.specs.Parts.{table_of}
 use Rattle.replies.specs.Refusal.{first_of, settle}
 use Rattle.checks.specs.Ready.{ready_rows}
 use Rattle.search.proofs.Finding.{each-inside}
-use Rattle.batch_begin.specs.declared.Parts.{Parts}
+use Rattle.batch_answer.specs.Answer.{refused_batch, reply_of_batch}
+use Rattle.batch_begin.specs.Begin.{Columns, columns_of}
 use Rattle.batch.proofs.BatchParts.{BatchFrom, servers, batch-refused, batch-start, mounted-few, ready-there, opened-few, batch-opened, batch-closed, ends-given, batch-done}
 use Rattle.batch.proofs.lookup_batch_in.Goals as goal
 
 pub returns-then-n-gt-MAX_IDS : goal.returns-then-n-gt-MAX_IDS
-returns-then-n-gt-MAX_IDS c = c.refuse_list.ensures ∙ batch-refused _ _ _ _ (omega (arith, c.if-n-gt-MAX_IDS.true))
+unfolding reply_of_batch
+returns-then-n-gt-MAX_IDS c = ap refused_batch c.refuse_list.ensures ∙ batch-refused _ _ _ _ (omega (arith, c.if-n-gt-MAX_IDS.true))
 
 -- the servers that the code goes through are those of the laws
 gone-through : (t : Table) (m : List ℕ) (tenant : ℕ) (ids : List ℕ) {number s : ℕ} → number ≡ first_of (ready_rows t m false false) → s ≡ cond (eqb number 0) t.count 0 → s ≡ servers t m tenant ids
@@ -24,13 +26,13 @@ unfolding settle
 gone-through t m tenant ids e d = rw e at d
 
 -- the parts before the last server, as it is counted down
-last-from : (t : Table) (m : List ℕ) (tenant : ℕ) (ids : List ℕ) (k : ℕ) (parts : Parts) (mounted : ℕ) → suc (k - 1) ≡ k → BatchFrom t m tenant ids k parts mounted → BatchFrom t m tenant ids (suc (k - 1)) parts mounted
+last-from : (t : Table) (m : List ℕ) (tenant : ℕ) (ids : List ℕ) (k : ℕ) (parts : Columns) (mounted : ℕ) → suc (k - 1) ≡ k → BatchFrom t m tenant ids k parts mounted → BatchFrom t m tenant ids (suc (k - 1)) parts mounted
 last-from t m tenant ids k parts mounted e from = rw e from
 
 pub loop-k-init : goal.loop-k-init
 loop-k-init c =
     let t = table_of c.args.table.now in
-    let number = c.check_number-number.ensures ∙ c.ready.ensures in
+    let number = c.ready-ready.ensures in
     batch-start t c.args.medium.now c.args.tenant c.args.ids.now (omega (arith, c.if-n-gt-MAX_IDS.false)) _ _ number (gone-through t _ c.args.tenant c.args.ids.now number c.searched-servers.ensures) _ c.begin-parts.ensures
 
 pub step_all-requires : goal.step_all-requires
@@ -41,7 +43,7 @@ step_all-requires c =
       inside = each-inside t.capacity t.count (c.loop-k.k - 1) (nth t.used) c.args.medium.now h.1.inside h.0;
       used_le_capacity = h.1.inside.fits (c.loop-k.k - 1) h.0;
       ids_len_bound = omega (arith, c.if-n-gt-MAX_IDS.false);
-      by_index = opened-few t c.args.medium.now c.args.tenant c.args.ids.now c.loop-k.k c.loop-k.parts c.loop-k.invariant.done h.1.inside.few;
+      by_index = opened-few t c.args.medium.now c.args.tenant c.args.ids.now c.loop-k.k (columns_of c.loop-k.parts) c.loop-k.invariant.done h.1.inside.few;
     }
 
 pub overflow_cast-k : goal.overflow_cast-k
@@ -58,7 +60,7 @@ pub overflow_add-mounts : goal.overflow_add-mounts
 overflow_add-mounts c =
     let t = table_of c.args.table.now in
     let h = ready-there t c.args.medium.now c.args.tenant c.args.ids.now (c.loop-k.k - 1) (omega (arith, c.loop-k.invariant.below)) in
-    omega (arith, mounted-few t c.args.medium.now c.args.tenant c.args.ids.now c.loop-k.k c.loop-k.parts c.loop-k.mounts c.loop-k.invariant, h.1.inside.few)
+    omega (arith, mounted-few t c.args.medium.now c.args.tenant c.args.ids.now c.loop-k.k (columns_of c.loop-k.parts) c.loop-k.mounts c.loop-k.invariant, h.1.inside.few)
 
 pub loop-k-preserved-then-has : goal.loop-k-preserved-then-has
 loop-k-preserved-then-has c =
@@ -74,13 +76,14 @@ pub order-requires : goal.order-requires
 order-requires c =
     let t = table_of c.args.table.now in
     let e : c.loop-k.k ≡ 0 = omega arith in
-    let number = c.check_number-number.ensures ∙ c.ready.ensures in
+    let number = c.ready-ready.ensures in
     let g = ends-given t _ _ _ _ _ (rw e at c.loop-k.invariant) _ (gone-through t _ c.args.tenant c.args.ids.now number c.searched-servers.ensures) in
     record { n_le_max_ids = omega (arith, c.if-n-gt-MAX_IDS.false); count_le_max_servers = g.0; by_index = g.1 }
 
 pub returns : goal.returns
+unfolding reply_of_batch
 returns c =
     let t = table_of c.args.table.now in
     let e : c.loop-k.k ≡ 0 = omega arith in
-    let number = c.check_number-number.ensures ∙ c.ready.ensures in
+    let number = c.ready-ready.ensures in
     batch-done t _ _ _ _ _ (rw e at c.loop-k.invariant) _ (gone-through t _ c.args.tenant c.args.ids.now number c.searched-servers.ensures) _ c.order.ensures

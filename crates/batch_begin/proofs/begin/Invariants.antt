@@ -1,7 +1,8 @@
 -- `batch_begin::begin` meets its contract. The invariant: the refusals of the ids passed are stored, and nothing else.
 use Rattle.std.proofs.Common.{◌≡◌}
-use Rattle.batch_begin.specs.Begin.{first_parts}
+use Rattle.replies.specs.Reply.{check_number}
+use Rattle.batch_begin.specs.Begin.{columns_of, first_parts}
 use Rattle.batch_begin.proofs.begin.Given as goal
 
 abbrev pub invariant-loop-i : goal.invariant-loop-i
-invariant-loop-i l = l.parts ≡ first_parts l.number l.tenant l.ids l.i
+invariant-loop-i l = columns_of l.parts ≡ first_parts (check_number l.ready) l.tenant l.ids l.i
