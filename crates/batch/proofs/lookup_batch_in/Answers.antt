@@ -33,7 +33,7 @@ pub loop-k-init : goal.loop-k-init
 loop-k-init c =
     let t = table_of c.args.table.now in
     let number = c.ready-ready.ensures in
-    batch-start t c.args.medium.now c.args.tenant c.args.ids.now (omega (arith, c.if-n-gt-MAX_IDS.false)) _ _ number (gone-through t _ c.args.tenant c.args.ids.now number c.searched-servers.ensures) _ c.begin-parts.ensures
+    batch-start t c.args.medium.now c.args.tenant c.args.ids.now (omega (arith, c.if-n-gt-MAX_IDS.false)) _ _ number (gone-through t _ c.args.tenant c.args.ids.now number c.searched-servers.ensures) _ c.begin.ensures
 
 pub step_all-requires : goal.step_all-requires
 step_all-requires c =
@@ -42,7 +42,7 @@ step_all-requires c =
     record {
       inside = each-inside t.capacity t.count (c.loop-k.k - 1) (nth t.used) c.args.medium.now h.1.inside h.0;
       used_le_capacity = h.1.inside.fits (c.loop-k.k - 1) h.0;
-      ids_len_bound = omega (arith, c.if-n-gt-MAX_IDS.false);
+      ids_len_bound = (omega (arith, c.if-n-gt-MAX_IDS.false));
       by_index = opened-few t c.args.medium.now c.args.tenant c.args.ids.now c.loop-k.k (columns_of c.loop-k.parts) c.loop-k.invariant.done h.1.inside.few;
     }
 
@@ -78,7 +78,7 @@ order-requires c =
     let e : c.loop-k.k ≡ 0 = omega arith in
     let number = c.ready-ready.ensures in
     let g = ends-given t _ _ _ _ _ (rw e at c.loop-k.invariant) _ (gone-through t _ c.args.tenant c.args.ids.now number c.searched-servers.ensures) in
-    record { n_le_max_ids = omega (arith, c.if-n-gt-MAX_IDS.false); count_le_max_servers = g.0; by_index = g.1 }
+    record { n_le_max_ids = (omega (arith, c.if-n-gt-MAX_IDS.false)); count_le_max_servers = g.0; by_index = g.1 }
 
 pub returns : goal.returns
 unfolding reply_of_batch
@@ -86,4 +86,5 @@ returns c =
     let t = table_of c.args.table.now in
     let e : c.loop-k.k ≡ 0 = omega arith in
     let number = c.ready-ready.ensures in
-    batch-done t _ _ _ _ _ (rw e at c.loop-k.invariant) _ (gone-through t _ c.args.tenant c.args.ids.now number c.searched-servers.ensures) _ c.order.ensures
+    ap reply_of_batch c.gathered.ensures
+    ∙ batch-done t _ _ _ _ _ (rw e at c.loop-k.invariant) _ (gone-through t _ c.args.tenant c.args.ids.now number c.searched-servers.ensures) _ c.order.ensures
