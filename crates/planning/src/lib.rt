@@ -14,7 +14,7 @@ use replies::Refusal;
 use table::View;
 
 // The server that a write of an id goes to on a sound table.
-fn target(table: &View<'_>, steps: &Steps, id: u32) -> usize
+fn target_of(table: &View<'_>, steps: &Steps, id: u32) -> usize
     requires { sound (table_of table.now) ≡ true }
     ensures { result ≡ target (table_of table.now) id }
 {
@@ -38,7 +38,7 @@ pub fn plan_write(
 {
     checks::asked(table, medium, tenant, id, CONTENT_RANGE <= value)?;
     let shape = table.shape;
-    let server = target(table, steps, id);
+    let server = target_of(table, steps, id);
     let entry = table.used[server];
     if entry == shape.capacity {
         return Err(Refusal::ServerFull);

@@ -21,51 +21,51 @@ returns-in_err-asked-clause-number c =
     let e = check-refused _ c.asked.ensures c.in_err-asked.was in
     rw (p.1, p.2) (e ∙ sym (first-earlier _ _ (asked-numbered (table_of c.args.table.now) c.args.medium.now c.args.tenant c.args.id _) (λ z. number-not-zero _ (e ∙ z))))
 
-pub target-server-requires : goal.target-server-requires
-target-server-requires c = (asked-ready (table_of c.args.table.now) _ _ _ _ (check-accepted _ c.asked.ensures c.in_ok-asked.was)).is_sound
+pub target_of-server-requires : goal.target_of-server-requires
+target_of-server-requires c = (asked-ready (table_of c.args.table.now) _ _ _ _ (check-accepted _ c.asked.ensures c.in_ok-asked.was)).is_sound
 
 pub offset_bounds-table-server : goal.offset_bounds-table-server
 unfolding target
 offset_bounds-table-server c =
-    let g = planned (table_of c.args.table.now) _ _ _ _ c.target-server.result (check-accepted _ c.asked.ensures c.in_ok-asked.was) c.target-server.ensures in
+    let g = planned (table_of c.args.table.now) _ _ _ _ c.target_of-server.result (check-accepted _ c.asked.ensures c.in_ok-asked.was) c.target_of-server.ensures in
     search rules
 
 pub bounds-table-server : goal.bounds-table-server
 unfolding target
 bounds-table-server c =
-    let g = planned (table_of c.args.table.now) _ _ _ _ c.target-server.result (check-accepted _ c.asked.ensures c.in_ok-asked.was) c.target-server.ensures in
+    let g = planned (table_of c.args.table.now) _ _ _ _ c.target_of-server.result (check-accepted _ c.asked.ensures c.in_ok-asked.was) c.target_of-server.ensures in
     omega arith
 
 pub returns-then-entry-shape-clause-number : goal.returns-then-entry-shape-clause-number
 unfolding check_number number_of target
 returns-then-entry-shape-clause-number c =
-    let g = planned (table_of c.args.table.now) _ _ _ _ c.target-server.result (check-accepted _ c.asked.ensures c.in_ok-asked.was) c.target-server.ensures in
-    sym (g.rest ∙ entry-full _ _ _ _ c.target-server.ensures (eq-eqb _ _ c.if-entry-shape.true))
+    let g = planned (table_of c.args.table.now) _ _ _ _ c.target_of-server.result (check-accepted _ c.asked.ensures c.in_ok-asked.was) c.target_of-server.ensures in
+    sym (g.rest ∙ entry-full _ _ _ _ c.target_of-server.ensures (eq-eqb _ _ c.if-entry-shape.true))
 
 pub entry_at-at-requires : goal.entry_at-at-requires
 unfolding target
 entry_at-at-requires c =
-    let g = planned (table_of c.args.table.now) _ _ _ _ c.target-server.result (check-accepted _ c.asked.ensures c.in_ok-asked.was) c.target-server.ensures in
+    let g = planned (table_of c.args.table.now) _ _ _ _ c.target_of-server.result (check-accepted _ c.asked.ensures c.in_ok-asked.was) c.target_of-server.ensures in
     omega arith
 
 pub is_blank-requires : goal.is_blank-requires
 unfolding target
 is_blank-requires c =
-    let g = planned (table_of c.args.table.now) _ _ _ _ c.target-server.result (check-accepted _ c.asked.ensures c.in_ok-asked.was) c.target-server.ensures in
-    words_there _ _ _ _ _ _ g c.target-server.ensures (ne_eqb _ _ c.if-entry-shape.false) c.entry_at-at.ensures
+    let g = planned (table_of c.args.table.now) _ _ _ _ c.target_of-server.result (check-accepted _ c.asked.ensures c.in_ok-asked.was) c.target_of-server.ensures in
+    words_there _ _ _ _ _ _ g c.target_of-server.ensures (ne_eqb _ _ c.if-entry-shape.false) c.entry_at-at.ensures
 
 pub returns-then-not-is_blank-clause-number : goal.returns-then-not-is_blank-clause-number
 unfolding check_number number_of target
 returns-then-not-is_blank-clause-number c =
-    let g = planned (table_of c.args.table.now) _ _ _ _ c.target-server.result (check-accepted _ c.asked.ensures c.in_ok-asked.was) c.target-server.ensures in
-    burned_there _ _ _ _ _ _ g c.target-server.ensures (ne_eqb _ _ c.if-entry-shape.false) c.entry_at-at.ensures c.is_blank.ensures c.if-not-is_blank.true
+    let g = planned (table_of c.args.table.now) _ _ _ _ c.target_of-server.result (check-accepted _ c.asked.ensures c.in_ok-asked.was) c.target_of-server.ensures in
+    burned_there _ _ _ _ _ _ g c.target_of-server.ensures (ne_eqb _ _ c.if-entry-shape.false) c.entry_at-at.ensures c.is_blank.ensures c.if-not-is_blank.true
 
 pub returns-clause-number : goal.returns-clause-number
 unfolding check_number target
 returns-clause-number c =
-    let g = planned (table_of c.args.table.now) _ _ _ _ c.target-server.result (check-accepted _ c.asked.ensures c.in_ok-asked.was) c.target-server.ensures in
-    blank_there _ _ _ _ _ _ g c.target-server.ensures (ne_eqb _ _ c.if-entry-shape.false) c.entry_at-at.ensures c.is_blank.ensures c.if-not-is_blank.false
+    let g = planned (table_of c.args.table.now) _ _ _ _ c.target_of-server.result (check-accepted _ c.asked.ensures c.in_ok-asked.was) c.target_of-server.ensures in
+    blank_there _ _ _ _ _ _ g c.target_of-server.ensures (ne_eqb _ _ c.if-entry-shape.false) c.entry_at-at.ensures c.is_blank.ensures c.if-not-is_blank.false
 
 pub returns-clause-server : goal.returns-clause-server
 unfolding target
-returns-clause-server c = c.target-server.ensures
+returns-clause-server c = c.target_of-server.ensures
