@@ -4,17 +4,14 @@
 ghost use Rattle.std.specs.Prelude.{◌≡◌, ℕ, ◌≤◌, ◌<◌, ◌*◌, length};
 ghost use Rattle.limits.specs.Limits.{max_ids};
 ghost use Rattle.lists.specs.Below.{nth, set_below};
-ghost use Rattle.table_words.specs.Words.{table_length, table_from};
-ghost use Rattle.batch_answer.specs.Answer.{opened_of, reply_of_batch};
-ghost use Rattle.batch.specs.Batch.{batch_reply};
+ghost use Rattle.batch_answer.specs.Answer.{opened_of};
 ghost use Rattle.encoding.specs.Encoding.{reply_length};
 ghost use Rattle.replay.specs.Replay.{with_replies};
 ghost use Rattle.batch_words.specs.BatchWords.{lookup_part, fits_batch, after_batch};
 
-use batch_answer::Batch;
 use encoding::REPLY_LENGTH;
 use limits::MAX_IDS;
-use replies::{LookupAnswer, Refusal};
+use replies::LookupAnswer;
 use table_words::TABLE_LENGTH;
 
 // Whether the runs are long enough for a batch of `n` ids.
