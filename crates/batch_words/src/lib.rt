@@ -74,15 +74,14 @@ pub fn lookup_batch(
         ≡ (after_batch table.old medium.now tenant ids.now replies.old order.old
         mounts.old).mounts }
 {
-    let n = ids.len();
-    if !fits(table, n, replies, order, mounts) {
+    if !fits(table, ids.len(), replies, order, mounts) {
         return encoding::TOO_SHORT;
     }
     match &batch::lookup_batch_in(&table_words::view_of(table), medium, tenant, ids) {
         Err(refusal) => refusal.number(),
         Ok(batch) => {
-            store_replies(&batch.answers, n, replies);
-            store_front(&batch.order, n, order);
+            store_replies(&batch.answers, ids.len(), replies);
+            store_front(&batch.order, ids.len(), order);
             mounts[0] = batch.mounts as u32;
             call_words::count_opened(table, tenant, batch_answer::sum(&batch.answers));
             0
