@@ -4,17 +4,14 @@
 ghost use Rattle.std.specs.Prelude.{◌≡◌, ℕ, ◌≤◌, ◌<◌, ◌*◌, length};
 ghost use Rattle.limits.specs.Limits.{max_ids};
 ghost use Rattle.lists.specs.Below.{nth, set_below};
-ghost use Rattle.table_words.specs.Words.{table_length, table_from};
-ghost use Rattle.batch_answer.specs.Answer.{opened_of, reply_of_batch};
-ghost use Rattle.batch.specs.Batch.{batch_reply};
+ghost use Rattle.batch_answer.specs.Answer.{opened_of};
 ghost use Rattle.encoding.specs.Encoding.{reply_length};
 ghost use Rattle.replay.specs.Replay.{with_replies};
 ghost use Rattle.batch_words.specs.BatchWords.{lookup_part, fits_batch, after_batch};
 
-use batch_answer::Batch;
 use encoding::REPLY_LENGTH;
 use limits::MAX_IDS;
-use replies::{LookupAnswer, Refusal};
+use replies::LookupAnswer;
 use table_words::TABLE_LENGTH;
 
 // Whether the runs are long enough for a batch of `n` ids.
@@ -77,15 +74,14 @@ pub fn lookup_batch(
         ≡ (after_batch table.old medium.now tenant ids.now replies.old order.old
         mounts.old).mounts }
 {
-    let n = ids.len();
-    if !fits(table, n, replies, order, mounts) {
+    if !fits(table, ids.len(), replies, order, mounts) {
         return encoding::TOO_SHORT;
     }
     match &batch::lookup_batch_in(&table_words::view_of(table), medium, tenant, ids) {
         Err(refusal) => refusal.number(),
         Ok(batch) => {
-            store_replies(&batch.answers, n, replies);
-            store_front(&batch.order, n, order);
+            store_replies(&batch.answers, ids.len(), replies);
+            store_front(&batch.order, ids.len(), order);
             mounts[0] = batch.mounts as u32;
             call_words::count_opened(table, tenant, batch_answer::sum(&batch.answers));
             0
