@@ -22,10 +22,7 @@ pub fn no_call() -> Reply
 {
     Reply {
         refusal: u32::MAX,
-        server: 0,
-        value: 0,
-        opened: 0,
-        invalidated: 0,
+        ..replies::ACCEPTED
     }
 }
 

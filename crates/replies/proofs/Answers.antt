@@ -12,7 +12,7 @@ use Rattle.replies.specs.declared.Refusal.TheVariants.{UnsoundTable, OutOfRange,
 use Rattle.replies.specs.Refusal.{Row, first_of, settle}
 use Rattle.replies.specs.declared.Reply.{Reply}
 use Rattle.std.specs.Prelude.{Result, Ok, Err}
-use Rattle.replies.specs.Reply.{refused, accepted, reply_by, number_of, check_number, reply_of_check}
+use Rattle.replies.specs.Reply.{refused, reply_by, number_of, check_number, reply_of_check}
 use Rattle.replies.proofs.Refusals.{settle-yes, settle-no, settle-either}
 
 -- no refusal has number 0

@@ -4,7 +4,7 @@
 mod numbers;
 
 pub use numbers::{
-    check_number, check_reply, delete_reply, lookup_reply, server_reply, write_reply,
+    ACCEPTED, check_number, check_reply, delete_reply, lookup_reply, server_reply, write_reply,
 };
 
 // Why a call is refused: a case for each number, in their order from 1 to 13. 1 to 10 are document 01's, the others
@@ -53,7 +53,7 @@ pub struct LookupAnswer {
     pub opened: usize,
 }
 
-// A reply in document 01's numbers. Refusal 0 is acceptance; what an answer does not carry is 0.
+// A reply in document 01's numbers, as words and lines have it. Refusal 0 is acceptance; what an answer does not carry is 0.
 #[derive(Clone, Copy)]
 pub struct Reply {
     pub refusal: u32,

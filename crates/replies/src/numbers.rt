@@ -24,15 +24,22 @@ pub fn check_number<T>(check: &Result<T, Refusal>) -> u32
     }
 }
 
+// The reply of an acceptance that carries nothing.
+pub const ACCEPTED: Reply = Reply {
+    refusal: 0,
+    server: 0,
+    value: 0,
+    opened: 0,
+    invalidated: 0,
+};
+
 fn refused(refusal: Refusal, opened: usize) -> Reply
     ensures { result ≡ refused (number_of refusal) opened }
 {
     Reply {
         refusal: refusal.number(),
-        server: 0,
-        value: 0,
         opened,
-        invalidated: 0,
+        ..ACCEPTED
     }
 }
 
@@ -40,14 +47,14 @@ fn on_server(server: usize, invalidated: usize) -> Reply
     ensures { result ≡ on_server server invalidated }
 {
     Reply {
-        refusal: 0,
         server,
-        value: 0,
-        opened: 0,
         invalidated,
+        ..ACCEPTED
     }
 }
 
+// The replies of what is accepted or refused. They share the arm of a refusal, which is one call; a function of all, which takes what
+// to do with an acceptance, would be no plainer.
 pub fn check_reply<T>(check: &Result<T, Refusal>) -> Reply
     ensures { result ≡ reply_of_check check.now }
 {
@@ -89,11 +96,9 @@ pub fn lookup_reply(answer: LookupAnswer) -> Reply
 {
     match answer.value {
         Ok(value) => Reply {
-            refusal: 0,
-            server: 0,
             value,
             opened: answer.opened,
-            invalidated: 0,
+            ..ACCEPTED
         },
         Err(refusal) => refused(refusal, answer.opened),
     }

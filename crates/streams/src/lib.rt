@@ -44,16 +44,11 @@ fn words_of(text: &str) -> &str {
 }
 
 // Says on standard error what failed and why.
-fn tell(rt: &(impl Eprint + AllocGlobal), what: &str, error: io::Error) -> io::Result<()> {
-    match format!(in rt.alloc(); "{error}") {
+fn tell(rt: &(impl Eprint + AllocGlobal), what: &str, error: io::Error) {
+    let _ = match format!(in rt.alloc(); "{error}") {
         Ok(text) => eprintln!(rt; "{what}: {}", words_of(&text)),
         Err(_) => eprintln!(rt; "{what}: {error}"),
-    }
-}
-
-// Says on standard error why a read failed.
-fn tell_input(rt: &(impl Eprint + AllocGlobal), error: io::Error) {
-    let _ = tell(rt, "standard input", error);
+    };
 }
 
 // Reads until the input ends or the buffer is full, and answers how many bytes came. Where a read fails, it says why on standard
@@ -73,7 +68,7 @@ pub fn read_all<R: io::Read>(
             Ok(0) => return Some(done),
             Ok(n) => done += n,
             Err(e) => {
-                tell_input(rt, e);
+                tell(rt, "standard input", e);
                 return None;
             }
         }
@@ -95,11 +90,6 @@ fn write_once<W: io::Write>(writer: &mut W, buf: &[u8]) -> io::Result<usize>
     writer.write(buf)
 }
 
-// Says on standard error why a write failed.
-fn tell_output(rt: &(impl Eprint + AllocGlobal), error: io::Error) {
-    let _ = tell(rt, "standard output", error);
-}
-
 // Writes all of the buffer and answers how many bytes went out. Where a write fails or takes nothing, it stops there and says why
 // on standard error.
 pub fn write_all<W: io::Write>(
@@ -115,12 +105,12 @@ pub fn write_all<W: io::Write>(
     while done < buf.len() {
         match write_once(writer, &buf[done..]) {
             Ok(0) => {
-                tell_output(rt, io::Error::from(ErrorKind::WriteZero));
+                tell(rt, "standard output", io::Error::from(ErrorKind::WriteZero));
                 return done;
             }
             Ok(n) => done += n,
             Err(e) => {
-                tell_output(rt, e);
+                tell(rt, "standard output", e);
                 return done;
             }
         }
