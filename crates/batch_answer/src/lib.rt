@@ -1,4 +1,4 @@
-// The answer to a batch of lookups, put together from plain numbers: it knows no table, no medium and no search.
+// The answer to a batch of lookups, put together from the answer to each: it knows no table, no medium and no search.
 #![tactic(auto)]
 
 mod ordering;

@@ -1,4 +1,4 @@
--- The number of each call, by which encoded calls and the program's lines name it; 0 is no call.
+-- The number of each call, by which encoded calls name it; any other number is no call.
 use Rattle.std.specs.Prelude.{ℕ}
 
 abbrev pub add_server_number : ℕ

@@ -4,7 +4,7 @@
 ghost use Rattle.std.specs.Prelude.{◌≡◌};
 ghost use Rattle.calls.specs.Numbered.{call_of, on_servers};
 
-// The number of each call; 0 is no call.
+// The number of each call; any other number is no call.
 const ADD_SERVER: u32 = 1;
 
 const REWEIGHT: u32 = 2;

@@ -19,6 +19,7 @@ const WORDS: usize = 3072;
 // Each byte of the longest sheet may print the longest line.
 const OUTPUT: usize = printing::LONGEST_LINE * sheet::MAX_INPUT;
 
+// These three arrays have a function each: written where they are used, the check takes so long arrays apart and does not end.
 fn input_space() -> [u8; INPUT]
     ensures { 65537 ≡ length result }
 {

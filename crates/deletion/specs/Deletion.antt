@@ -36,7 +36,7 @@ delete_reply t m tenant id = reply_by (delete_rows t m tenant id) (on_server 0 (
 unfoldable pub delete_medium : Table → List ℕ → ℕ → ℕ → List ℕ
 delete_medium t m tenant id = settle (delete_rows t m tenant id) (burn_all m (delete_burns t m id)) m
 
--- The body, of which the plain call is the one with no burn left over. With a number of burns n it makes the first n of them, all
+-- The body, of which the plain call is the one that makes them all. With a number of burns n it makes the first n of them, all
 -- where there are no more; the reply is the plain call's, whatever n is, and the table is as lent.
 unfoldable pub delete_some_medium : Table → List ℕ → ℕ → ℕ → ℕ → List ℕ
 delete_some_medium t m tenant id n = settle (delete_rows t m tenant id) (burn_all m (take n (delete_burns t m id))) m

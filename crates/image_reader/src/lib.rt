@@ -119,8 +119,8 @@ pub fn decode_into(image: &[u32], table: &mut Table) -> Result<(), Refusal>
     Ok(())
 }
 
-// Reads a table from its image, or refuses words that are the image of no sound table. The table of all zeros stands for what is
-// refused.
+// Reads a table from its image, or refuses words that are the image of no sound table; in the clause of the table all zeros stand
+// for that.
 #[tactic(auto, unfolding(replies::specs::Reply::reply_of_check))]
 pub fn decode(image: &[u32]) -> Result<Table, Refusal>
     ensures reply { reply_of_check result ≡ decode_reply image.now }

@@ -19,6 +19,7 @@ fn target_of(table: &View<'_>, steps: &Steps, id: u32) -> usize
     ensures { result ≡ target (table_of table.now) id }
 {
     let shape = table.shape;
+    // The slice has a name, so that the check knows its length from the array's type.
     let weights = table.weights;
     let all: &[u32] = weights;
     placement::write_server(&all[..shape.count], steps, shape.salt, id)

@@ -1,4 +1,4 @@
--- Calls run on a table lent as words, as crate table's Words.antt has it.
+-- Calls run on a table lent as words, as crate table_words's Words.antt has it.
 use Rattle.std.specs.Prelude.{ℕ, cond, List, length, ltb}
 use Rattle.table_words.specs.Words.{table_length}
 use Rattle.encoding.specs.Encoding.{room_for}

@@ -10,7 +10,7 @@ ghost use Rattle.servers.specs.Servers.{start_reply, start_table, add_server_rep
 use replies::Refusal;
 use table::Table;
 
-// Starts a table of no server. Where the capacity or the salt is refused, the table of all zeros stands for it.
+// Starts a table of no server, or says why the capacity or the salt is refused; in the clause of the table all zeros stand for that.
 pub fn start(capacity: u32, salt: u32) -> Result<Table, Refusal>
     ensures reply { reply_of_check result ≡ start_reply capacity salt }
     ensures table { result_unwrap_or result (empty 0 0) ≡ start_table capacity salt }

@@ -12,7 +12,7 @@ use draws::Steps;
 use encoding::BURNS_OFFSET;
 use replies::Reply;
 
-// Runs the call. The entry of a write is counted as used where no burns are left over.
+// Runs the call. The entry of a write is counted as used where all its burns were made.
 fn run(call: Option<Call>, burns: usize, table: &mut [u32], medium: &mut [u32]) -> Reply
     requires { table_length ≤ length table.old }
     ensures reply { result ≡ some_reply (lent table.old medium.old) call }

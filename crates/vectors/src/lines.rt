@@ -6,7 +6,7 @@ use vectors_calls::Command;
 #[derive(Clone, Copy)]
 pub struct Case<'a> {
     pub text: &'a [u8],
-    pub command: Command,
+    pub command: Option<Command>,
     pub next: usize,
 }
 
@@ -40,7 +40,7 @@ fn numbers(input: &[u8]) -> [u32; 8] {
     values
 }
 
-// The case whose line begins at a position. Where no bar follows, its command has the letter 0.
+// The case whose line begins at a position. Where no bar follows, it has no command.
 pub fn read(input: &[u8], at: usize) -> Case<'_>
     requires { at < length input.now }
     ensures { at < result.next }
@@ -48,22 +48,18 @@ pub fn read(input: &[u8], at: usize) -> Case<'_>
     let call = after(input, at, b'|');
     let text = &input[at..call - 1];
     if call == input.len() {
-        let command = Command {
-            letter: 0,
-            numbers: [0; 8],
-        };
         return Case {
             text,
-            command,
+            command: None,
             next: call,
         };
     }
     Case {
         text,
-        command: Command {
+        command: Some(Command {
             letter: input[call],
             numbers: numbers(&input[call + 1..]),
-        },
+        }),
         next: after(input, call, b'\n'),
     }
 }

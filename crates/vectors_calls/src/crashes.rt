@@ -11,7 +11,7 @@ pub fn write_and_forget(archive: &mut Archive, numbers: [u32; 8]) -> Answer<'sta
     Answer::Reply(replies::write_reply(written))
 }
 
-// With burns left over the table is as it was.
+// Where not all burns were made the table is as it was.
 pub fn write_some(archive: &mut Archive, numbers: [u32; 8]) -> Answer<'static> {
     let [tenant, id, value, burns, ..] = numbers;
     let (table, medium) = archive.parts();

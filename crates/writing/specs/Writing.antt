@@ -34,8 +34,8 @@ write_table t m tenant id value = settle (write_rows t m tenant id value) (with_
 unfoldable pub write_medium : Table → List ℕ → ℕ → ℕ → ℕ → List ℕ
 write_medium t m tenant id value = settle (write_rows t m tenant id value) (burn_all m (write_burns t m id value)) m
 
--- The body, of which the plain call is the one with no burn left over. With a number of burns n it makes the first n of them, all
--- where there are no more; the reply is the plain call's, whatever n is. Where burns are left over the table is as lent.
+-- The body, of which the plain call is the one that makes them all. With a number of burns n it makes the first n of them, all
+-- where there are no more; the reply is the plain call's, whatever n is. Where not all are made the table is as lent.
 unfoldable pub write_some_table : Table → List ℕ → ℕ → ℕ → ℕ → ℕ → Table
 write_some_table t m tenant id value n =
     settle (write_rows t m tenant id value) (cond (leb (length (write_burns t m id value)) n) (with_entry t (target t id)) t) t

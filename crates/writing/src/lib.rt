@@ -42,7 +42,7 @@ fn enter(medium: &mut [u32], at: usize, id: u32, value: u32, burns: usize)
 
 // Writes for a tenant on a table that is lent: the value and the id go to the write server's next entry, then each earlier live entry
 // of the id on readable servers at or above it is invalidated, with as many burns as `burns` allow. It answers as if all were made.
-// The caller counts the entry as used on the server that is answered, where no burns are left over.
+// The caller counts the entry as used on the server that is answered, where all burns were made.
 pub fn write_in(
     table: &View<'_>,
     steps: &Steps,
@@ -68,7 +68,7 @@ pub fn write_in(
     })
 }
 
-// Writes for a tenant, with a number of burns. Where burns are left over the table is as it was.
+// Writes for a tenant, with a number of burns. Where not all were made the table is as it was.
 pub fn write_some(
     table: &mut Table,
     medium: &mut [u32],
