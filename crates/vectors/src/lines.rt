@@ -6,7 +6,7 @@ use vectors_calls::Command;
 #[derive(Clone, Copy)]
 pub struct Case<'a> {
     pub text: &'a [u8],
-    pub command: Option<Command>,
+    pub command: Command,
     pub next: usize,
 }
 
@@ -40,7 +40,8 @@ fn numbers(input: &[u8]) -> [u32; 8] {
     values
 }
 
-// The case whose line begins at a position. Where no bar follows, it has no command.
+// The case whose line begins at a position. Where no bar follows, its command has the letter 0, and is run
+// as any other.
 pub fn read(input: &[u8], at: usize) -> Case<'_>
     requires { at < length input.now }
     ensures { at < result.next }
@@ -48,18 +49,22 @@ pub fn read(input: &[u8], at: usize) -> Case<'_>
     let call = after(input, at, b'|');
     let text = &input[at..call - 1];
     if call == input.len() {
+        let command = Command {
+            letter: 0,
+            numbers: [0; 8],
+        };
         return Case {
             text,
-            command: None,
+            command,
             next: call,
         };
     }
     Case {
         text,
-        command: Some(Command {
+        command: Command {
             letter: input[call],
             numbers: numbers(&input[call + 1..]),
-        }),
+        },
         next: after(input, call, b'\n'),
     }
 }

@@ -28,10 +28,7 @@ fn run_all<W: Write>(out: &mut W, input: &[u8]) -> io::Result<()> {
     let mut at: usize = 0;
     while at < input.len() {
         let case = lines::read(input, at);
-        let answer = match case.command {
-            Some(command) => run(&mut archive, command),
-            None => Answer::Nothing,
-        };
+        let answer = run(&mut archive, case.command);
         vectors_calls::print(out, case.text, answer)?;
         at = case.next;
     }
