@@ -86,23 +86,21 @@ fn read_table(image: &[u32], count: usize, table: &mut Table) -> Option<()>
     read_counters(image, HEAD_WORDS + PART_WORDS * count, &mut table.counters)
 }
 
-// Reads a table, and tells whether the words are the image of a sound one.
+// Reads a table, if the words are the image of a sound one.
 #[tactic(auto, using(image::proofs::Reading::too_many, image::proofs::Reading::not_long, image::proofs::Reading::not_tagged, image::proofs::Reading::not_sound, image::proofs::Reading::all_taken, crate::proofs::Tagged::none_if))]
-fn read_image(image: &[u32], table: &mut Table) -> bool
-    ensures taken { result ≡ is_image image.now }
+fn read_image(image: &[u32], table: &mut Table) -> Option<()>
+    ensures taken { result ≡ cond (is_image image.now) (Some tt) None }
     ensures table { is_image image.now ≡ true → table.new ≡ table_in image.now }
 {
     let count = count_in(image.len());
     if count > MAX_SERVERS {
-        return false;
+        return None;
     }
     if image.len() != image_length(count) {
-        return false;
+        return None;
     }
-    if read_table(image, count, table).is_none() {
-        return false;
-    }
-    table.view().is_sound()
+    read_table(image, count, table)?;
+    table.view().is_sound().then_some(())
 }
 
 // Reads a table from its image into a table that is lent, or refuses words that are the image of no sound table and leaves one of
@@ -112,7 +110,7 @@ pub fn decode_into(image: &[u32], table: &mut Table) -> Result<(), Refusal>
     ensures reply { reply_of_check result ≡ decode_reply image.now }
     ensures table { table.new ≡ decode_table image.now }
 {
-    if !read_image(image, table) {
+    if read_image(image, table).is_none() {
         *table = table::empty(0, 0);
         return Err(Refusal::BadImage);
     }
