@@ -8,6 +8,7 @@ ghost use Rattle.deletion.specs.Deletion.{delete_reply, delete_medium, delete_so
 
 use draws::Steps;
 use limits::ALL_BURNS;
+use medium::Mark;
 use replies::Refusal;
 use table::{Table, View};
 
@@ -25,7 +26,7 @@ pub fn delete_in(
     ensures medium { medium.new ≡ delete_some_medium (table_of table.now) medium.old tenant id burns }
 {
     checks::asked(table, medium, tenant, id, false)?;
-    let n = invalidation::invalidate(medium, table, steps, id, 0, medium::DELETED, burns);
+    let n = invalidation::invalidate(medium, table, steps, id, 0, Mark::Deleted, burns);
     if n == 0 {
         return Err(Refusal::NotFound);
     }

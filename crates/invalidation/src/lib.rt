@@ -1,18 +1,19 @@
 // The invalidations of a write and of a delete: a mark on each live entry of an id, server by server.
 #![tactic(auto)]
 
-ghost use Rattle.std.specs.Prelude.{◌≡◌, ◌<◌, length, take};
-ghost use Rattle.limits.specs.Limits.{content_range};
+ghost use Rattle.std.specs.Prelude.{◌≡◌, length, take};
 ghost use Rattle.lists.specs.Below.{nth};
+ghost use Rattle.medium.specs.Word.{mark_content};
 ghost use Rattle.medium.specs.Entry.{AllInside};
 ghost use Rattle.medium.specs.Burn.{burn_all, invalidations};
 ghost use Rattle.table.specs.Parts.{table_of};
 ghost use Rattle.invalidation.specs.Marks.{marks_from};
 
 use draws::Steps;
+use medium::Mark;
 use table::View;
 
-// Burns a mark of this content on each live entry of an id on the readable servers from `from` up, as many as `burns` allow, and
+// Burns a mark on each live entry of an id on the readable servers from `from` up, as many as `burns` allow, and
 // answers how many such entries there are.
 pub fn invalidate(
     medium: &mut [u32],
@@ -20,14 +21,13 @@ pub fn invalidate(
     steps: &Steps,
     id: u32,
     from: usize,
-    content: u32,
+    mark: Mark,
     burns: usize,
 ) -> usize
-    requires all_inside { AllInside table.now.shape.capacity table.now.shape.count (nth table.now.used.now) medium.old }
-    requires content_lt_content_range { content < content_range }
+    requires { AllInside table.now.shape.capacity table.now.shape.count (nth table.now.used.now) medium.old }
     ensures count { result ≡ length (marks_from (table_of table.now) medium.old id from) }
     ensures words { medium.new
-        ≡ burn_all medium.old (take burns (invalidations content (marks_from (table_of table.now) medium.old id from))) }
+        ≡ burn_all medium.old (take burns (invalidations (mark_content mark) (marks_from (table_of table.now) medium.old id from))) }
 {
     let entries = table.shape.capacity as usize;
     let salt = table.shape.salt;
@@ -35,7 +35,7 @@ pub fn invalidate(
     for k in from..table.shape.count {
         if placement::takes(table.read_p(k), steps, salt, id, k) {
             let used = table.used[k] as usize;
-            n = marking::invalidate_server(medium, entries, used, id, k, content, burns, n);
+            n = marking::invalidate_server(medium, entries, used, id, k, mark, burns, n);
         }
     }
     n

@@ -5,7 +5,9 @@ use mathlib.Core.Path.{◌≡◌, ◌∙◌}
 use mathlib.Core.Bool.{Bool, true, false}
 use mathlib.Core.List.{List}
 use lib.Dec.{ltb, eqb}
+use lib.ListN.{get_or, take, drop}
 use borrow.Author.Tests.{ltb-true, lt-ltb, eqb-true, eq-eqb, ne_eqb}
+use Rattle.std.proofs.lemmas.List.{get_or-take, get_or-drop}
 use Rattle.lists.specs.Below.{nth}
 use Rattle.lists.proofs.Tests.{and_l, and_r, and_i}
 use Rattle.lists.proofs.Below.{all_below-more, all_below-in, all_below-out, all_below-not}
@@ -54,6 +56,10 @@ bears-cong capacity m m' id k j s = rw (s.id_same, s.mark_same)
 pub live-cong : (capacity used : ℕ) (m m' : List ℕ) (id k j : ℕ) → SameEntry capacity m m' k j → live capacity used m id k j ≡ live capacity used m' id k j
 unfolding live
 live-cong capacity used m m' id k j s = rw (bears-cong capacity m m' id k j s)
+
+-- a word of a run is that of the slice
+pub run-word : (m : List ℕ) (from n i : ℕ) → i < n → get_or (take n (drop from m)) i 0 ≡ nth m (from + i)
+run-word m from n i l = get_or-take n (drop from m) i 0 l ∙ get_or-drop from m i 0
 
 module _ (m : List ℕ) (from n : ℕ) where
   abbrev is_blank : ℕ → Bool

@@ -2,6 +2,8 @@
 -- void. No word of tag 3 but blank is ever written.
 use Rattle.std.specs.Prelude.{ℕ}
 use Rattle.words.specs.Word.{tagged}
+use Rattle.medium.specs.declared.Mark.{Mark}
+use Rattle.medium.specs.declared.Mark.TheVariants.{Replaced, Deleted}
 
 -- the tag 0 adds nothing
 abbrev pub id_word : ℕ → ℕ
@@ -19,6 +21,10 @@ replaced = 1
 
 abbrev pub deleted : ℕ
 deleted = 2
+
+unfoldable pub mark_content : Mark → ℕ
+mark_content Replaced = replaced
+mark_content Deleted = deleted
 
 abbrev pub blank : ℕ
 blank = 4294967295

@@ -3,6 +3,7 @@
 
 ghost use Rattle.std.specs.Prelude.{◌≡◌, ◌<◌, ◌≤◌, ◌+◌, length};
 ghost use Rattle.limits.specs.Limits.{max_servers, max_capacity};
+ghost use Rattle.medium.specs.Word.{mark_word, mark_content};
 ghost use Rattle.medium.specs.Entry.{mark_place, server_at, entry_at, bears_at, blank_run};
 
 use limits::CONTENT_RANGE;
@@ -13,7 +14,7 @@ pub const BLANK: u32 = 4294967295;
 // What the tag in the top two bits adds to the content of a word: 1 for a value, 2 for a mark. An id's word is the id.
 pub const VALUE_TAG: u32 = CONTENT_RANGE;
 
-pub const MARK_TAG: u32 = 2 * CONTENT_RANGE;
+const MARK_TAG: u32 = 2 * CONTENT_RANGE;
 
 // An entry has three words: its id's, its value's and its mark, which stand this far from its first word.
 pub const ENTRY_WORDS: usize = 3;
@@ -22,10 +23,24 @@ pub const VALUE_PLACE: usize = 1;
 
 pub const MARK_PLACE: usize = 2;
 
-// The contents of a mark.
-pub const REPLACED: u32 = 1;
+// What a mark says of its entry, by the number that its word has as its content.
+#[derive(Clone, Copy)]
+pub enum Mark {
+    // A write put a newer entry of the id in its place.
+    Replaced = 1,
+    // The id was deleted.
+    Deleted = 2,
+}
 
-pub const DELETED: u32 = 2;
+impl Mark {
+    // The word of a mark.
+    #[tactic(auto, unfolding(crate::specs::Word::mark_content))]
+    pub fn word(self) -> u32
+        ensures { result ≡ mark_word (mark_content self) }
+    {
+        MARK_TAG + self as u32
+    }
+}
 
 // The first word of a server, and of the one after the last.
 pub fn server_at(capacity: usize, server: usize) -> usize
@@ -49,8 +64,8 @@ pub fn is_blank(medium: &[u32], from: usize, n: usize) -> bool
     ensures { result ≡ blank_run medium.now from n }
 {
     // A `for`, since `all` takes 1.4 times as many instructions.
-    for i in 0..n {
-        if medium[from + i] != BLANK {
+    for word in &medium[from..from + n] {
+        if *word != BLANK {
             return false;
         }
     }

@@ -3,16 +3,18 @@
 use Prim.Native.Nat.{ℕ, zero, suc, ◌+◌, ◌-◌, ◌≤◌, ◌<◌}
 use mathlib.Core.Path.{◌≡◌, refl, sym, ap, ◌∙◌}
 use mathlib.Core.Bool.{Bool, true, false, cond, not}
-use mathlib.Core.List.{List, [], ◌∷◌}
+use mathlib.Core.List.{List, [], ◌∷◌, ◌++◌}
 use native.Mathlib.Numerals.{sub-one}
 use native.Mathlib.Omega.{arith}
-use lib.ListN.{length}
+use lib.ListN.{length, take, drop}
 use lib.Dec.{eqb, ltb}
-use lib.Seq.{ext_get_or}
+use lib.Seq.{ext_get_or, take_all}
 use borrow.Author.Tests.{eqb-true, eqb-false, ltb-true, ltb-false, not-false}
+use Rattle.std.proofs.lemmas.List.{length-take-le}
 use Rattle.lists.specs.Below.{nth, set_below}
 use Rattle.lists.proofs.Tests.{by_bool}
-use Rattle.lists.proofs.Below.{length-set_below, set_below-at, set_below-above}
+use Rattle.lists.proofs.Below.{length-set_below, set_below-at, set_below-above, set_below-cong}
+use Rattle.lists.proofs.Listed.{set_below-take}
 use Rattle.medium.specs.Entry.{entry_words, server_at, entry_at, blank_run}
 use Rattle.table.specs.declared.Table.{Table}
 use Rattle.table.specs.Parts.{shape_of, table_by, used_of}
@@ -135,6 +137,15 @@ recover-accepted t m z =
     let a = passed 0 (not (sound t)) (5 when short t m ∷ []) z in
     let b = passed 4 (short t m) [] a.1 in
     record { is_sound = not-false _ a.0; long = ltb-false (length m) (server_at t.capacity t.count) b.0 }
+
+-- the part of a column that is recounted, before the rest of it
+pub put_back : (f : ℕ → ℕ) (n : ℕ) (xs part : List ℕ) → n ≤ length xs → part ≡ set_below f n (take n xs) → part ++ drop n xs ≡ set_below f n xs
+put_back f n xs part l e =
+    let few : n ≤ length (take n xs) = omega (arith, length-take-le n xs l) in
+    let long : length part ≡ n = ap length e ∙ length-set_below f n (take n xs) ∙ length-take-le n xs l in
+    ap (λ (ys : List ℕ). ys ++ drop n xs) (sym (take_all n part (omega arith)))
+    ∙ sym (set_below-take part xs n (omega arith) l)
+    ∙ set_below-cong (nth part) f n xs (λ k i. ap (λ (ys : List ℕ). nth ys k) e ∙ set_below-at f n (take n xs) few k i)
 
 -- the table, once its column is recounted
 pub recounted : (t : Table) (f : ℕ → ℕ) (used : List ℕ) → used ≡ set_below f t.count t.used

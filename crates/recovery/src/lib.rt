@@ -36,8 +36,8 @@ pub fn recount(medium: &[u32], capacity: usize, count: usize, used: &mut [u32])
     requires count_in_bounds { count ≤ length used.old }
     ensures { used.new ≡ set_below (used_on capacity medium.now) count used.old }
 {
-    for k in 0..count {
-        used[k] = used_on(medium, capacity, k) as u32;
+    for (k, used) in used[..count].iter_mut().enumerate() {
+        *used = used_on(medium, capacity, k) as u32;
     }
 }
 

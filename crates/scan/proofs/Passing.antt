@@ -9,13 +9,12 @@ use Rattle.std.proofs.Common.{Some}
 use lib.Dec.{eqb}
 use lib.ListN.{length, get_or, take, drop}
 use Rattle.std.proofs.Math.Bool.{or_comm}
-use Rattle.std.proofs.lemmas.List.{get_or-take, get_or-drop}
 use Rattle.lists.specs.Below.{nth, some_below, highest}
 use Rattle.lists.proofs.Below.{some_below-out, some_below-next, highest-last, highest-below}
 use Rattle.medium.specs.Word.{id_word}
 use Rattle.medium.specs.Entry.{entry_words, entry_at, bears_at, live, Inside}
 use Rattle.medium.proofs.Places.{entry-on, entries-inside}
-use Rattle.medium.proofs.Entries.{live_below}
+use Rattle.medium.proofs.Entries.{run-word, live_below}
 
 -- some of n words from an address on is an id's, and some of n entries bears it
 abbrev pub has_word : List ℕ → ℕ → ℕ → ℕ → Bool
@@ -27,7 +26,7 @@ bears_some m id from n = some_below (λ i. bears_at m id (from + entry_words * i
 -- the words of a run are a slice, and its next word is the slice's
 pub has-next : (m : List ℕ) (id from n i : ℕ) {found : Bool} → i < n → found ≡ has_word m id from i
     → found || eqb (get_or (take n (drop from m)) i 0) id ≡ has_word m id from (i + 1)
-has-next m id from n i {found} l e = rw (get_or-take n (drop from m) i 0 l, get_or-drop from m i 0, or_comm) (some_below-next (λ i. eqb (nth m (from + i)) id) i (eqb (nth m (from + i)) id) found refl e)
+has-next m id from n i {found} l e = rw (run-word m from n i l, or_comm) (some_below-next (λ i. eqb (nth m (from + i)) id) i (eqb (nth m (from + i)) id) found refl e)
 
 -- an entry whose first word is not the id's does not bear it
 other_word : (m : List ℕ) (id at : ℕ) → eqb (nth m at) (id_word id) ≡ false → bears_at m id at ≡ false

@@ -80,37 +80,24 @@ pub fn empty(capacity: u32, salt: u32) -> Table
 }
 
 // Whether a capacity and a salt are in range.
+#[tactic(auto, unfolding(crate::specs::Sound::in_range))]
 pub fn in_range(capacity: u32, salt: u32) -> bool
     ensures { result ≡ in_range capacity salt }
 {
-    if capacity < 1 {
-        return false;
-    }
-    if capacity > MAX_CAPACITY {
-        return false;
-    }
-    salt < CONTENT_RANGE
+    (1..=MAX_CAPACITY).contains(&capacity) && salt < CONTENT_RANGE
 }
 
 // Whether a ReadP is in range and at least this weight over this sum. With `sum` the weights of the servers up to it, that is its
 // WriteP but for server 0, whose WriteP is 1, and for a weight of 0, where any ReadP is at least WriteP.
+#[tactic(auto, unfolding(crate::specs::Sound::read_sound))]
 fn read_sound(read: Fraction, weight: u32, sum: u32) -> bool
     ensures { result ≡ read_sound read (record { num = weight; den = sum }) }
 {
-    if read.den < 1 {
-        return false;
-    }
-    if read.den > MAX_SUM {
-        return false;
-    }
-    if read.num > read.den {
-        return false;
-    }
     let write = Fraction {
         num: weight,
         den: sum,
     };
-    placement::at_least(read, write)
+    (1..=MAX_SUM).contains(&read.den) && read.num <= read.den && placement::at_least(read, write)
 }
 
 impl View<'_> {
@@ -157,6 +144,7 @@ impl View<'_> {
     {
         let capacity = self.shape.capacity;
         let count = self.shape.count;
+        // An `if` for each test. Tried: `||` for the four, whose proof names each way to it twice and is longer.
         if !in_range(capacity, self.shape.salt) {
             return false;
         }

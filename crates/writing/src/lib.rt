@@ -12,6 +12,7 @@ ghost use Rattle.writing.specs.Writing.{write_reply, write_table, write_medium, 
 
 use draws::Steps;
 use limits::ALL_BURNS;
+use medium::Mark;
 use replies::{Refusal, Written};
 use table::{Table, View};
 
@@ -60,8 +61,8 @@ pub fn write_in(
     let at = medium::entry_at(capacity, server, table.used[server] as usize);
     enter(medium, at, id, value, burns);
     let left = burns.saturating_sub(ENTRY_BURNS);
-    let content = medium::REPLACED;
-    let invalidated = invalidation::invalidate(medium, table, steps, id, server, content, left);
+    let mark = Mark::Replaced;
+    let invalidated = invalidation::invalidate(medium, table, steps, id, server, mark, left);
     Ok(Written {
         server,
         invalidated,

@@ -1,5 +1,6 @@
 -- `marking::invalidate_server` meets its contract. The invariant: the blocks passed are done, as `Marked` says.
 use Rattle.std.proofs.Common.{◌≡◌, ◌+◌, ◌*◌, ◌/◌, ◌%◌, sym, ◌∙◌, arith}
+use Rattle.medium.specs.Word.{mark_content}
 use Rattle.scan.proofs.Passing.{none-by-words}
 use Rattle.marking.proofs.Runs.{server-run}
 use Rattle.marking.proofs.Marked.{none-marked, more-marked, none_more}
@@ -9,7 +10,7 @@ use Rattle.marking.proofs.invalidate_server.Goals.{else-has, then-has}
 pub loop-block-init : goal.loop-block-init
 loop-block-init c =
     let a = c.args in
-    none-marked a.medium.now a.id c.entry_at-first.result a.content a.burns a.n
+    none-marked a.medium.now a.id c.entry_at-first.result (mark_content a.mark) a.burns a.n
 
 pub loop-block-preserved : goal.loop-block-preserved
 loop-block-preserved c =

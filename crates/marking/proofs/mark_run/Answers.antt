@@ -1,5 +1,6 @@
 -- `marking::mark_run` meets its contract. The invariant: the entries passed are done, as `Marked` says.
 use Rattle.std.proofs.Common.{refl, ◌∙◌}
+use Rattle.medium.specs.Word.{mark_content}
 use Rattle.marking.proofs.Marked.{none-marked, one-not, one-marked, one_left}
 use Rattle.marking.proofs.mark_run.Goals as goal
 use Rattle.marking.proofs.mark_run.Goals.{else-bears, else-marks-burns, then-bears, then-marks-burns}
@@ -7,7 +8,7 @@ use Rattle.marking.proofs.mark_run.Goals.{else-bears, else-marks-burns, then-bea
 pub loop-i-init : goal.loop-i-init
 loop-i-init c =
     let a = c.args in
-    none-marked a.medium.now a.id a.from a.content a.burns a.counted
+    none-marked a.medium.now a.id a.from (mark_content a.mark) a.burns a.counted
 
 pub loop-i-preserved : goal.loop-i-preserved
 loop-i-preserved c =
@@ -15,7 +16,7 @@ loop-i-preserved c =
     let test = c.bears.ensures in
     elim c.if-bears.branch [
       | then-bears w ↦ (elim w.if-marks-burns.branch [
-        | then-marks-burns x ↦ one-marked done refl test w.if-bears.true w.marks-is x.if-marks-burns.true (w.medium-is ∙ x.medium-is)
+        | then-marks-burns x ↦ one-marked done refl test w.if-bears.true w.marks-is x.if-marks-burns.true (w.medium-is ∙ rw x.word.ensures at x.medium-is)
         | else-marks-burns x ↦ one_left done refl test w.if-bears.true w.marks-is x.if-marks-burns.false (w.medium-is ∙ x.medium-is)
       ])
       | else-bears w ↦ one-not done refl test w.if-bears.false w.marks-is w.medium-is

@@ -4,5 +4,5 @@ use mathlib.Core.Bool.{true}
 use Rattle.medium.specs.Entry.{blank_run}
 use Rattle.medium.proofs.is_blank.Given as goal
 
-abbrev pub invariant-loop-i : goal.invariant-loop-i
-invariant-loop-i l = blank_run l.medium l.from l.i ≡ true
+abbrev pub invariant-loop-word : goal.invariant-loop-word
+invariant-loop-word l = blank_run l.medium l.from l.word-index ≡ true

@@ -5,4 +5,4 @@ use Rattle.recovery.specs.Recovery.{used_on}
 use Rattle.recovery.proofs.recount.Given as goal
 
 abbrev pub invariant-loop-k : goal.invariant-loop-k
-invariant-loop-k l = l.used ≡ set_below (used_on l.capacity l.medium) l.k l.initial.used
+invariant-loop-k l = l.used-items ≡ set_below (used_on l.capacity l.medium) l.k l.initial.used-items

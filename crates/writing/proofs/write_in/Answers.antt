@@ -3,6 +3,7 @@
 use native.Mathlib.Omega.{arith}
 use borrow.Author.Rules.{rules}
 use Rattle.std.proofs.lemmas.Result.{err_from_is_err_and}
+use Rattle.medium.specs.Word.{mark_content}
 use Rattle.table.specs.Parts.{table_of}
 use Rattle.replies.specs.Reply.{reply_of_write}
 use Rattle.replies.proofs.Answers.{check-refused, check-accepted}
@@ -32,13 +33,13 @@ enter-requires c =
     let p = placed _ _ _ _ _ _ (check-accepted _ c.plan_write.ensures.number c.in_ok-server.was) c.in_ok-server.ensures.server in
     record { value_place_in_bounds = omega (arith, c.entry_at-at.ensures, p.words); value_lt_content_range = p.small }
 
-pub invalidate-invalidated-requires-clause-all_inside : goal.invalidate-invalidated-requires-clause-all_inside
-invalidate-invalidated-requires-clause-all_inside c =
+pub invalidate-invalidated-requires : goal.invalidate-invalidated-requires
+invalidate-invalidated-requires c =
     let p = placed _ _ _ _ _ _ (check-accepted _ c.plan_write.ensures.number c.in_ok-server.was) c.in_ok-server.ensures.server in
     rw c.enter.ensures (inside-burned _ _ _ _ _ p.inside)
 
 pub returns : goal.returns
-unfolding reply_of_write
+unfolding reply_of_write mark_content
 returns c =
     let z = check-accepted _ c.plan_write.ensures.number c.in_ok-server.was in
     let w = written (table_of c.args.table.now) c.args.medium.now c.args.tenant c.args.id c.args.value c.args.burns z c.in_ok-server.server c.entry_at-at.result _ c.saturating_sub-left.result _ c.in_ok-server.ensures.server c.entry_at-at.ensures
