@@ -1,6 +1,6 @@
 -- The last equations of lookup.
 -- Assumes nothing.
-use Prim.Native.Nat.{ℕ, ◌+◌, ◌<◌}
+use Prim.Native.Nat.{ℕ, ◌+◌, ◌≤◌, ◌<◌}
 use mathlib.Core.Path.{◌≡◌, sym, ap, ap₂, ◌∙◌}
 use mathlib.Core.List.{List}
 use Rattle.std.specs.Prelude.{None, Some}
@@ -18,10 +18,18 @@ use Rattle.medium.specs.Entry.{entry_at, Inside}
 use Rattle.medium.proofs.Places.{entry-inside}
 use Rattle.medium.proofs.Entries.{live-used}
 use Rattle.table.specs.Parts.{used_of}
+use Rattle.table.proofs.Soundness.{sound-facts}
 use Rattle.search.proofs.Finding.{each-inside}
 use Rattle.search.proofs.Searches.{met_some}
 use Rattle.lookup.proofs.Passed.{lookup-accepted}
 use Rattle.lookup.specs.Lookup.{lookup_rows, met_reply, lookup_reply}
+
+-- an entry of a server of the table
+pub record MetOn (t : Table) (m : List ℕ) (p : Place) : Type 0 where
+  pub below : p.server < 256
+  pub inside : Inside t.capacity p.server m
+  pub fits : used_of t p.server ≤ t.capacity
+  pub entry : p.entry < t.capacity
 
 -- what a search that answers this met, and how many servers it opened
 module _ (t : Table) (m : List ℕ) (tenant id : ℕ) (z : first_of (lookup_rows t m tenant id) ≡ 0) {a : SearchAnswer} (e : a ≡ answer_of (search_for t m id)) where
@@ -40,14 +48,20 @@ module _ (t : Table) (m : List ℕ) (tenant id : ℕ) (z : first_of (lookup_rows
   pub looked-some : (p : Place) → a.met ≡ Some p → met_reply t.capacity m a.opened (Some p) ≡ lookup_reply t m tenant id
   looked-some p f = ap (met_reply t.capacity m a.opened) (sym f) ∙ answered
 
-  -- the entry that it met is a used one, and its server lies inside the medium
-  pub met-place : (p : Place) → a.met ≡ Some p → Inside t.capacity p.server m × (p.entry < t.capacity)
+  -- the entry that it met is one of its server, and the server is one of the table and lies inside the medium
+  pub met-place : (p : Place) → a.met ≡ Some p → MetOn t m p
   unfolding answer_of
   met-place p f =
-      let i = (lookup-accepted t m tenant id z).inside in
+      let a = lookup-accepted t m tenant id z in
+      let i = a.inside in
       let g = met_some t m id p (sym (ap (λ (f : SearchAnswer). f.met) e) ∙ f) in
       let u = live-used t.capacity (used_of t p.server) m id p.server p.entry g.is_live in
-      (each-inside t.capacity t.count p.server (used_of t) m i g.below, omega (arith, u, i.fits p.server g.below))
+      record {
+        below = omega (arith, g.below, (sound-facts t a.is_sound).few);
+        inside = each-inside t.capacity t.count p.server (used_of t) m i g.below;
+        fits = i.fits p.server g.below;
+        entry = omega (arith, u, i.fits p.server g.below);
+      }
 
 -- a lookup that its tests refuse
 pub lookup-refused : (t : Table) (m : List ℕ) (tenant id : ℕ) (r : Refusal) → number_of r ≡ first_of (lookup_rows t m tenant id) → refused (number_of r) 0 ≡ lookup_reply t m tenant id

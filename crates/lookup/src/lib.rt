@@ -9,18 +9,18 @@ ghost use Rattle.lookup.specs.Lookup.{met_reply, lookup_reply, lookup_table};
 
 use draws::Steps;
 use replies::{LookupAnswer, Refusal};
-use search::Place;
+use scan::Server;
 use table::{Table, View};
 
 // What an entry that a lookup meets has: its value, or a refusal where its value word has another tag.
 #[tactic(auto, using(crate::proofs::Looked::value_inside), unfolding(crate::specs::Lookup::met_reply, replies::specs::Reply::found_or, replies::specs::Reply::number_of))]
-pub fn met(capacity: u32, medium: &[u32], place: Place) -> Result<u32, Refusal>
-    requires inside { Inside capacity place.server medium.now }
-    requires lt_capacity { place.entry < capacity }
-    ensures { (opened : ℕ) → found_or result opened ≡ met_reply capacity medium.now opened (Some place) }
+pub fn met(server: &Server<'_>, entry: usize) -> Result<u32, Refusal>
+    requires { entry < server.now.capacity }
+    ensures { (opened : ℕ) → found_or result opened
+        ≡ met_reply server.now.capacity server.now.medium.now opened (Some (record { server = server.now.number; entry = entry })) }
 {
-    let at = medium::entry_at(capacity as usize, place.server, place.entry);
-    let word = medium[at + medium::VALUE_PLACE];
+    let at = medium::entry_at(server.capacity, server.number, entry);
+    let word = server.medium[at + medium::VALUE_PLACE];
     if words::tag_of(word) == 1 {
         Ok(words::content_of(word))
     } else {
@@ -51,10 +51,18 @@ pub fn lookup_in(
             value: Err(Refusal::NotFound),
             opened,
         },
-        Some(place) => LookupAnswer {
-            value: met(table.shape.capacity, medium, place),
-            opened,
-        },
+        Some(place) => {
+            let server = Server {
+                medium,
+                capacity: table.shape.capacity as usize,
+                used: table.used[place.server] as usize,
+                number: place.server,
+            };
+            LookupAnswer {
+                value: met(&server, place.entry),
+                opened,
+            }
+        }
     }
 }
 

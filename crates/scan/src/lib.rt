@@ -46,61 +46,69 @@ fn bears_some(medium: &[u32], from: usize, n: usize, id: u32) -> bool
     false
 }
 
-// The entries that are left to a search of a server for an id once the blocks from the highest entry down that do not bear it are passed
-// over.
-fn pass_blocks(medium: &[u32], capacity: usize, used: usize, id: u32, server: usize) -> usize
-    requires inside { Inside capacity server medium.now }
-    requires used_le_capacity { used ≤ capacity }
-    ensures few { result ≤ used }
-    ensures same { highest (live capacity used medium.now id server) used ≡ highest (live capacity used medium.now id server) result }
-{
-    let rest = used % BLOCK_ENTRIES;
-    for block in (0..used / BLOCK_ENTRIES).rev() {
-        let low = rest + BLOCK_ENTRIES * block;
-        let from = medium::entry_at(capacity, server, low);
-        if has(medium, from, BLOCK_WORDS, id) {
-            if bears_some(medium, from, BLOCK_ENTRIES, id) {
-                return low + BLOCK_ENTRIES;
+// One server of a medium: the words that are lent as the medium, the capacity of a server, how many entries are used on this one, and its
+// number.
+#[derive(Clone, Copy)]
+pub struct Server<'a> {
+    pub medium: &'a [u32],
+    pub capacity: usize,
+    pub used: usize,
+    pub number: usize,
+    ghost inside: { Inside capacity number medium.now },
+    ghost few: { used ≤ capacity },
+}
+
+impl Server<'_> {
+    // The entries that are left to a search for an id once the blocks from the highest entry down that do not bear it are passed over.
+    fn pass_blocks(&self, id: u32) -> usize
+        ensures few { result ≤ self.now.used }
+        ensures same { highest (live self.now.capacity self.now.used self.now.medium.now id self.now.number) self.now.used
+            ≡ highest (live self.now.capacity self.now.used self.now.medium.now id self.now.number) result }
+    {
+        let rest = self.used % BLOCK_ENTRIES;
+        for block in (0..self.used / BLOCK_ENTRIES).rev() {
+            let low = rest + BLOCK_ENTRIES * block;
+            let from = medium::entry_at(self.capacity, self.number, low);
+            if has(self.medium, from, BLOCK_WORDS, id) {
+                if bears_some(self.medium, from, BLOCK_ENTRIES, id) {
+                    return low + BLOCK_ENTRIES;
+                }
             }
         }
+        rest
     }
-    rest
-}
 
-// The same with groups of entries after the blocks, which are worth it where there are many entries.
-pub fn left(medium: &[u32], capacity: usize, used: usize, id: u32, server: usize) -> usize
-    requires inside { Inside capacity server medium.now }
-    requires used_le_capacity { used ≤ capacity }
-    ensures few { result ≤ used }
-    ensures same { highest (live capacity used medium.now id server) used ≡ highest (live capacity used medium.now id server) result }
-{
-    let mut j = used;
-    if MANY <= used {
-        j = pass_blocks(medium, capacity, used, id, server);
-    }
-    // A `for` over the groups' numbers was tried: it took 1.4 times as long on servers of 64 to 250 entries.
-    while GROUP <= j {
-        let first = medium::entry_at(capacity, server, j - GROUP);
-        if bears_some(medium, first, GROUP, id) {
-            return j;
+    // The same with groups of entries after the blocks, which are worth it where there are many entries.
+    fn left(&self, id: u32) -> usize
+        ensures few { result ≤ self.now.used }
+        ensures same { highest (live self.now.capacity self.now.used self.now.medium.now id self.now.number) self.now.used
+            ≡ highest (live self.now.capacity self.now.used self.now.medium.now id self.now.number) result }
+    {
+        let mut j = self.used;
+        if MANY <= self.used {
+            j = self.pass_blocks(id);
         }
-        j -= GROUP;
+        // A `for` over the groups' numbers was tried: it took 1.4 times as long on servers of 64 to 250 entries.
+        while GROUP <= j {
+            let first = medium::entry_at(self.capacity, self.number, j - GROUP);
+            if bears_some(self.medium, first, GROUP, id) {
+                return j;
+            }
+            j -= GROUP;
+        }
+        j
     }
-    j
-}
 
-// The highest-numbered live entry of an id on a server.
-pub fn newest(medium: &[u32], capacity: usize, used: usize, id: u32, server: usize) -> Option<usize>
-    requires inside { Inside capacity server medium.now }
-    requires used_le_capacity { used ≤ capacity }
-    ensures { result ≡ highest (live capacity used medium.now id server) used }
-{
-    let entries = left(medium, capacity, used, id, server);
-    for j in (0..entries).rev() {
-        let at = medium::entry_at(capacity, server, j);
-        if medium::bears(medium, at, id) {
-            return Some(j);
+    // The highest-numbered live entry of an id.
+    pub fn newest(&self, id: u32) -> Option<usize>
+        ensures { result ≡ highest (live self.now.capacity self.now.used self.now.medium.now id self.now.number) self.now.used }
+    {
+        for j in (0..self.left(id)).rev() {
+            let at = medium::entry_at(self.capacity, self.number, j);
+            if medium::bears(self.medium, at, id) {
+                return Some(j);
+            }
         }
+        None
     }
-    None
 }

@@ -8,6 +8,7 @@ ghost use Rattle.table.specs.Parts.{table_of};
 ghost use Rattle.search.specs.Search.{search_for, answer_of};
 
 use draws::Steps;
+use scan::Server;
 use table::View;
 
 // An entry by its server and its number there.
@@ -29,14 +30,19 @@ pub fn find(table: &View<'_>, steps: &Steps, medium: &[u32], id: u32) -> SearchA
     requires { AllInside table.now.shape.capacity table.now.shape.count (nth table.now.used.now) medium.now }
     ensures { result ≡ answer_of (search_for (table_of table.now) medium.now id) }
 {
-    let entries = table.shape.capacity as usize;
+    let capacity = table.shape.capacity as usize;
     let salt = table.shape.salt;
     let mut opened: usize = 0;
     for server in (0..table.shape.count).rev() {
         if placement::takes(table.read_p(server), steps, salt, id, server) {
             opened += 1;
-            let used = table.used[server] as usize;
-            if let Some(entry) = scan::newest(medium, entries, used, id, server) {
+            let opening = Server {
+                medium,
+                capacity,
+                used: table.used[server] as usize,
+                number: server,
+            };
+            if let Some(entry) = opening.newest(id) {
                 let met = Some(Place { server, entry });
                 return SearchAnswer { met, opened };
             }

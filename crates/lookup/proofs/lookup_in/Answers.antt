@@ -2,6 +2,7 @@
 use Prim.Native.Nat.{ℕ}
 use mathlib.Core.Path.{◌≡◌, ◌∙◌}
 use mathlib.Core.Bool.{false}
+use native.Mathlib.Omega.{arith}
 use mathlib.Core.List.{List}
 use Rattle.std.specs.Prelude.{Result, Ok}
 use Rattle.table.specs.declared.Table.{Table}
@@ -28,11 +29,19 @@ accepted t m tenant id e f = check-accepted (asked_rows t m tenant id false) e f
 pub find-answer-requires : goal.find-answer-requires
 find-answer-requires c = (lookup-accepted _ _ _ _ (accepted _ _ _ _ c.asked.ensures c.in_default.is)).inside
 
-pub met-requires-clause-inside : goal.met-requires-clause-inside
-met-requires-clause-inside c = (met-place (table_of c.args.table.now) _ _ _ (accepted _ _ _ _ c.asked.ensures c.in_default.is) c.find-answer.ensures _ c.in-Some.is).0
+pub bounds-table-place : goal.bounds-table-place
+bounds-table-place c = (met-place (table_of c.args.table.now) _ _ _ (accepted _ _ _ _ c.asked.ensures c.in_default.is) c.find-answer.ensures _ c.in-Some.is).below
 
-pub met-requires-clause-lt_capacity : goal.met-requires-clause-lt_capacity
-met-requires-clause-lt_capacity c = (met-place (table_of c.args.table.now) _ _ _ (accepted _ _ _ _ c.asked.ensures c.in_default.is) c.find-answer.ensures _ c.in-Some.is).1
+pub offset_bounds-table-place : goal.offset_bounds-table-place
+offset_bounds-table-place c = omega (arith, (met-place (table_of c.args.table.now) _ _ _ (accepted _ _ _ _ c.asked.ensures c.in_default.is) c.find-answer.ensures _ c.in-Some.is).below)
+
+pub invariant_of-server : goal.invariant_of-server
+invariant_of-server c =
+    let p = met-place (table_of c.args.table.now) _ _ _ (accepted _ _ _ _ c.asked.ensures c.in_default.is) c.find-answer.ensures _ c.in-Some.is in
+    record { inside = p.inside; few = p.fits }
+
+pub met-requires : goal.met-requires
+met-requires c = (met-place (table_of c.args.table.now) _ _ _ (accepted _ _ _ _ c.asked.ensures c.in_default.is) c.find-answer.ensures _ c.in-Some.is).entry
 
 pub returns-in-None : goal.returns-in-None
 unfolding reply_of_lookup found_or number_of

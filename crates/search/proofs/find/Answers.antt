@@ -8,8 +8,8 @@ use Rattle.search.proofs.find.Goals as goal
 pub loop-server-init : goal.loop-server-init
 loop-server-init c = record { few = omega arith; left = all_left _ _ _ }
 
-pub newest-requires-clause-inside : goal.newest-requires-clause-inside
-newest-requires-clause-inside c = each-inside _ _ _ _ _ c.requires (omega arith)
+pub invariant_of-opening-clause-inside : goal.invariant_of-opening-clause-inside
+invariant_of-opening-clause-inside c = each-inside _ _ _ _ _ c.requires (omega arith)
 
 pub returns-in-Some : goal.returns-in-Some
 returns-in-Some c =
