@@ -60,7 +60,7 @@ pub fn lookup_batch_in(
 {
     let mut parts = Parts {
         answers: [UNANSWERED; MAX_IDS],
-        ends: [None; MAX_IDS],
+        ends: [0; MAX_IDS],
     };
     let n = ids.len();
     if n > MAX_IDS {
@@ -73,7 +73,7 @@ pub fn lookup_batch_in(
     let mut mounts: usize = 0;
     for k in (0..servers).rev() {
         batch_steps::step_all(&mut parts, table, &steps, medium, ids, k);
-        if batch_answer::has(&parts.ends[..n], Some(k as u8)) {
+        if batch_answer::has(&parts.ends[..n], k as u16 + 1) {
             mounts += 1;
         }
     }

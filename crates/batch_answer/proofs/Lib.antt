@@ -1,5 +1,5 @@
 pub mod Precedence
-pub mod EndNumbers
+pub mod EndsFront
 pub mod Filled
 pub mod Orders
 pub mod Columns

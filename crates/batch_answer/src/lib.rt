@@ -7,7 +7,6 @@ ghost use Rattle.std.specs.Prelude.{◌≡◌, ℕ, ◌<◌, length, eqb};
 ghost use Rattle.limits.specs.Limits.{max_ids};
 ghost use Rattle.lists.specs.Below.{nth, some_below, total};
 ghost use Rattle.batch_answer.specs.Answer.{opened_of};
-ghost use Rattle.batch_answer.specs.Ends.{end_number, end_numbers};
 
 use limits::MAX_IDS;
 pub use ordering::order;
@@ -29,11 +28,11 @@ pub struct Batch {
     pub order: [u32; MAX_IDS],
 }
 
-// Whether a search ends at a server, by the ends of all searches; with `None`, whether one opens no server.
-pub fn has(ends: &[Option<u8>], end: Option<u8>) -> bool
-    ensures { result ≡ some_below (λ i. eqb (nth (end_numbers ends.now) i) (end_number end)) (length ends.now) }
+// Whether one of the numbers is `x`.
+pub fn has(numbers: &[u16], x: u16) -> bool
+    ensures { result ≡ some_below (λ i. eqb (nth numbers.now i) x) (length numbers.now) }
 {
-    ends.contains(&end)
+    numbers.contains(&x)
 }
 
 // How many servers the lookups of a batch opened, each counted for itself.

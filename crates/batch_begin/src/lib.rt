@@ -10,12 +10,13 @@ use batch_answer::UNANSWERED;
 use limits::MAX_IDS;
 use replies::{LookupAnswer, Refusal};
 
-// How far the lookups of all ids are, in the order of the ids. An answer is `NotFound` while no entry was met, and an end is the
-// last server opened for the id, if one was.
+// How far the lookups of all ids are, in the order of the ids. An answer is `NotFound` while no entry was met, and an end is one
+// more than the last server opened for the id, or 0. Tried: `Option<u8>` for an end was proved, and with 256 servers 256 ids took
+// 22 % more instructions, since the library looks for a number in groups and for an option one at a time.
 #[derive(Clone, Copy)]
 pub struct Parts {
     pub answers: [LookupAnswer; MAX_IDS],
-    pub ends: [Option<u8>; MAX_IDS],
+    pub ends: [u16; MAX_IDS],
 }
 
 // The refusal of an id before any server is opened, by what the tests say of an id in range that is the caller's own.
@@ -45,7 +46,7 @@ pub fn begin(parts: &mut Parts, ready: Result<(), Refusal>, tenant: u32, ids: &[
     ensures { columns_of parts.new ≡ first_parts (check_number ready) tenant ids.now (length ids.now) }
 {
     parts.answers.fill(UNANSWERED);
-    parts.ends.fill(None);
+    parts.ends.fill(0);
     for (i, id) in ids.iter().enumerate() {
         parts.answers[i] = LookupAnswer {
             value: Err(first_refusal(ready, tenant, *id)),

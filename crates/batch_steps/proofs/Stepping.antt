@@ -23,10 +23,7 @@ use Rattle.replies.specs.declared.Refusal.TheVariants.{NotFound}
 use Rattle.replies.specs.declared.LookupAnswer.{LookupAnswer}
 use Rattle.replies.specs.Reply.{number_of, found_or, reply_of_lookup}
 use Rattle.replies.proofs.Distinct.{numbers_apart, lookup_opened}
-use Rattle.batch_answer.specs.Ends.{end_number}
 use Rattle.batch_answer.proofs.Columns.{column-set, column-at}
-use Rattle.batch_answer.proofs.EndNumbers.{number-at}
-use Rattle.std.proofs.lemmas.List.{map-set}
 use Rattle.batch_begin.specs.declared.Parts.{Parts}
 use Rattle.lookup.specs.Lookup.{met_reply}
 use Rattle.search.proofs.Searches.{highest-at}
@@ -58,14 +55,14 @@ module _ (read : Fraction) (shape : Shape) (used : ℕ) (m : List ℕ) (id k : �
 
     -- it is opened, and o is its newest entry
     module _ (d : r ≡ true) {o : Option ℕ} (f : o ≡ highest (live shape.capacity used m id k) used) where
-      pub step-passed : o ≡ None → record { refusal = 8; value = 0; opened = p.opened + 1; end = suc k } ≡ next_part
+      pub step-passed : o ≡ None → record { refusal = 8; value = 0; opened = p.opened + 1; end = k + 1 } ≡ next_part
       unfolding visited
-      step-passed g = sym (step-tested true d ∙ rw (sym f ∙ g, add-one p.opened))
+      step-passed g = sym (step-tested true d ∙ rw (sym f ∙ g, add-one p.opened, add-one k))
 
       pub step-met : (j : ℕ) → o ≡ Some j → {y : Reply} → y ≡ met_reply shape.capacity m (p.opened + 1) (Some (record { server = k; entry = j }))
-          → record { refusal = y.refusal; value = y.value; opened = p.opened + 1; end = suc k } ≡ next_part
+          → record { refusal = y.refusal; value = y.value; opened = p.opened + 1; end = k + 1 } ≡ next_part
       unfolding visited
-      step-met j g h = sym (step-tested true d ∙ rw (sym f ∙ g, h, add-one p.opened))
+      step-met j g h = sym (step-tested true d ∙ rw (sym f ∙ g, h, add-one p.opened, add-one k))
 
 -- an answer of number 8 is absent, and no other
 absent-value : (v : Result ℕ Refusal) (n : ℕ) → (found_or v n).refusal ≡ 8 → v ≡ Err NotFound
@@ -74,7 +71,7 @@ absent-value (Ok v) n e = absurd (omega arith)
 absent-value (Err r) n e = ap Err (numbers_apart r NotFound e)
 
 -- the answer so far and the end of an id
-module _ (a : LookupAnswer) (end : Option ℕ) where
+module _ (a : LookupAnswer) (end : ℕ) where
   pub not-absent : a.value ≢ Err NotFound → (progress_of a end).refusal ≢ 8
   unfolding reply_of_lookup
   not-absent f e = f (absent-value a.value a.opened e)
@@ -85,49 +82,49 @@ module _ (a : LookupAnswer) (end : Option ℕ) where
     is-absent = rw v refl
 
     -- a server more is opened for it, with no entry there or with one
-    pub passed-answer : (k : ℕ) → progress_of (record { value = a.value; opened = a.opened + 1 }) (Some k)
-        ≡ record { refusal = 8; value = 0; opened = (progress_of a end).opened + 1; end = suc k }
-    unfolding reply_of_lookup found_or number_of end_number
-    passed-answer k = rw v refl
+    pub passed-answer : (e : ℕ) → progress_of (record { value = a.value; opened = a.opened + 1 }) e
+        ≡ record { refusal = 8; value = 0; opened = (progress_of a end).opened + 1; end = e }
+    unfolding reply_of_lookup found_or number_of
+    passed-answer e = rw v refl
 
-    pub met-answer : (w : Result ℕ Refusal) (k : ℕ) → progress_of (record { value = w; opened = a.opened + 1 }) (Some k)
+    pub met-answer : (w : Result ℕ Refusal) (e : ℕ) → progress_of (record { value = w; opened = a.opened + 1 }) e
         ≡ record {
           refusal = (found_or w ((progress_of a end).opened + 1)).refusal;
           value = (found_or w ((progress_of a end).opened + 1)).value;
           opened = (progress_of a end).opened + 1;
-          end = suc k;
+          end = e;
         }
-    unfolding reply_of_lookup end_number
-    met-answer w k = rw (lookup_opened a, lookup_opened (record { value = w; opened = a.opened + 1 })) refl
+    unfolding reply_of_lookup
+    met-answer w e = rw (lookup_opened a, lookup_opened (record { value = w; opened = a.opened + 1 })) refl
 
 -- the parts of all ids by position: read and stored
 module _ (parts : Parts) (i : ℕ) where
   abbrev unanswered : LookupAnswer
   unanswered = record { value = Ok 0; opened = 0 }
 
-  pub part-read : progress_of (get_or parts.answers i unanswered) (get_or parts.ends i None) ≡ progress_at (columns_of parts) i
+  pub part-read : progress_of (get_or parts.answers i unanswered) (nth parts.ends i) ≡ progress_at (columns_of parts) i
   unfolding reply_of_lookup found_or
   part-read =
       let r = column-at (λ (x : Reply). x.refusal) parts.answers i unanswered refl in
       let v = column-at (λ (x : Reply). x.value) parts.answers i unanswered refl in
       let o = column-at (λ (x : Reply). x.opened) parts.answers i unanswered refl in
-      λ k. record { refusal = sym r k; value = sym v k; opened = sym o k; end = sym (number-at parts.ends i) k }
+      λ k. record { refusal = sym r k; value = sym v k; opened = sym o k; end = nth parts.ends i }
 
   pub opened-read : (get_or parts.answers i unanswered).opened ≡ nth (columns_of parts).opened i
   opened-read = sym (lookup_opened (get_or parts.answers i unanswered)) ∙ ap (λ (p : Progress). p.opened) part-read
 
-  pub part-stored : (a : LookupAnswer) (e : Option ℕ) → columns_of (record { answers = set parts.answers i a; ends = set parts.ends i e })
+  pub part-stored : (a : LookupAnswer) (e : ℕ) → columns_of (record { answers = set parts.answers i a; ends = set parts.ends i e })
       ≡ record {
         refusals = set (columns_of parts).refusals i (progress_of a e).refusal;
         values = set (columns_of parts).values i (progress_of a e).value;
         opened = set (columns_of parts).opened i (progress_of a e).opened;
-        ends = set (columns_of parts).ends i (progress_of a e).end;
+        ends = set (columns_of parts).ends i e;
       }
   part-stored a e =
       let r = column-set (λ (x : Reply). x.refusal) parts.answers i a in
       let v = column-set (λ (x : Reply). x.value) parts.answers i a in
       let o = column-set (λ (x : Reply). x.opened) parts.answers i a in
-      λ k. record { refusals = r k; values = v k; opened = o k; ends = map-set end_number parts.ends i e k }
+      λ k. record { refusals = r k; values = v k; opened = o k; ends = set parts.ends i e }
 
 -- server k for the ids below n
 module _ (read : Fraction) (shape : Shape) (used : ℕ) (m ids : List ℕ) (k : ℕ) (parts : Columns) (n : ℕ) {next : Columns}

@@ -9,7 +9,6 @@ use Rattle.table.specs.declared.Shape.{Shape}
 use Rattle.lookup.specs.Lookup.{met_reply}
 use Rattle.replies.specs.declared.LookupAnswer.{LookupAnswer}
 use Rattle.replies.specs.Reply.{reply_of_lookup}
-use Rattle.batch_answer.specs.Ends.{end_number}
 use Rattle.batch_begin.specs.Begin.{Columns}
 
 -- How far the lookup of one id in a batch is: its number of each column.
@@ -20,10 +19,10 @@ pub record Progress : Type 0 where
   pub end : ℕ
 
 -- the same by its answer so far and its end
-abbrev pub progress_of : LookupAnswer → Option ℕ → Progress
+abbrev pub progress_of : LookupAnswer → ℕ → Progress
 progress_of answer end =
     let r = reply_of_lookup answer in
-    record { refusal = r.refusal; value = r.value; opened = r.opened; end = end_number end }
+    record { refusal = r.refusal; value = r.value; opened = r.opened; end = end }
 
 -- server k is opened for an id, and `opened` is the number of servers opened with it; an entry there ends the search
 unfoldable pub visited : ℕ → List ℕ → ℕ → ℕ → Option ℕ → Progress

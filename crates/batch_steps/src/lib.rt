@@ -19,7 +19,7 @@ use table::View;
 // yet and it is read for the id.
 fn step(
     answer: &mut LookupAnswer,
-    end: &mut Option<u8>,
+    end: &mut u16,
     table: &View<'_>,
     steps: &Steps,
     medium: &[u32],
@@ -41,7 +41,7 @@ fn step(
         return;
     }
     answer.opened += 1;
-    *end = Some(server as u8);
+    *end = server as u16 + 1;
     let used = table.used[server] as usize;
     if let Some(entry) = scan::newest(medium, shape.capacity as usize, used, id, server) {
         answer.value = lookup::met(shape.capacity, medium, Place { server, entry });

@@ -1,5 +1,5 @@
 -- `batch::lookup_batch_in` meets its contract: the servers that the tests leave, and each of them for every id.
-use Prim.Native.Nat.{ℕ, suc, ◌-◌}
+use Prim.Native.Nat.{ℕ, suc, ◌+◌, ◌-◌}
 use mathlib.Core.Bool.{false, cond}
 use mathlib.Core.List.{List}
 use mathlib.Core.Path.{◌≡◌, ap, ◌∙◌}
@@ -51,6 +51,11 @@ overflow_cast-k c =
     let h = ready-there (table_of c.args.table.now) c.args.medium.now c.args.tenant c.args.ids.now (c.loop-k.k - 1) (omega (arith, c.loop-k.invariant.below)) in
     omega (arith, h.0, h.1.inside.few)
 
+pub overflow_add-k : goal.overflow_add-k
+overflow_add-k c =
+    let h = ready-there (table_of c.args.table.now) c.args.medium.now c.args.tenant c.args.ids.now (c.loop-k.k - 1) (omega (arith, c.loop-k.invariant.below)) in
+    omega (arith, h.0, h.1.inside.few)
+
 pub overflow_add-mounts : goal.overflow_add-mounts
 overflow_add-mounts c =
     let t = table_of c.args.table.now in
@@ -60,12 +65,12 @@ overflow_add-mounts c =
 pub loop-k-preserved-then-has : goal.loop-k-preserved-then-has
 loop-k-preserved-then-has c =
     let from = last-from _ _ _ _ _ _ _ (omega arith) c.loop-k.invariant in
-    batch-opened (table_of c.args.table.now) _ _ _ (c.loop-k.k - 1) _ _ from _ c.step_all.ensures c.has.ensures c.if-has.true
+    batch-opened (table_of c.args.table.now) _ _ _ (c.loop-k.k - 1) _ _ from _ c.step_all.ensures (c.loop-k.k - 1 + 1) (omega arith) c.has.ensures c.if-has.true
 
 pub loop-k-preserved : goal.loop-k-preserved
 loop-k-preserved c =
     let from = last-from _ _ _ _ _ _ _ (omega arith) c.loop-k.invariant in
-    batch-closed (table_of c.args.table.now) _ _ _ (c.loop-k.k - 1) _ _ from _ c.step_all.ensures c.has.ensures c.if-has.false
+    batch-closed (table_of c.args.table.now) _ _ _ (c.loop-k.k - 1) _ _ from _ c.step_all.ensures (c.loop-k.k - 1 + 1) (omega arith) c.has.ensures c.if-has.false
 
 pub order-requires : goal.order-requires
 order-requires c =

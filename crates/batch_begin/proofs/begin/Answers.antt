@@ -1,5 +1,5 @@
 -- `batch_begin::begin` meets its contract. The invariant: the refusals of the ids passed are stored, and nothing else.
-use Rattle.std.proofs.Common.{rules, ◌≡◌, ◌∙◌, ℕ, ◌+◌, List, set, replicate, None, Ok, Err, ap}
+use Rattle.std.proofs.Common.{rules, ◌≡◌, ◌∙◌, ℕ, ◌+◌, List, set, replicate, Ok, Err, ap}
 use Rattle.lists.specs.Below.{nth, set_below}
 use Rattle.lists.proofs.Below.{set_below-more, set-nth, nth-zeros}
 use Rattle.replies.specs.declared.Refusal.{Refusal}
@@ -7,8 +7,6 @@ use Rattle.replies.specs.declared.Reply.{Reply}
 use Rattle.replies.specs.declared.LookupAnswer.{LookupAnswer}
 use Rattle.replies.specs.Reply.{number_of, found_or, reply_of_lookup}
 use Rattle.batch_answer.specs.Answer.{filled, refusals_of, values_of, opened_of}
-use Rattle.batch_answer.specs.Ends.{end_numbers}
-use Rattle.batch_answer.proofs.EndNumbers.{no-numbers}
 use Rattle.batch_answer.proofs.Columns.{column-set, column-fill}
 use Rattle.batch_begin.specs.declared.Parts.{Parts}
 use Rattle.batch_begin.specs.Begin.{Columns, columns_of, first_refusal, first_parts}
@@ -37,12 +35,12 @@ unfolding first_parts filled set_below reply_of_lookup found_or
 loop-i-init c =
     let a : LookupAnswer = record { value = Ok 0; opened = 0 } in
     let e : c.fill.new.self ≡ replicate 256 a = search rules in
-    let z : c.fill-2.new.self ≡ replicate 256 None = search rules in
+    let z : c.fill-2.new.self ≡ replicate 256 0 = search rules in
     λ k. record {
       refusals = (ap (λ (xs : List LookupAnswer). refusals_of xs) e ∙ column-fill (λ (x : Reply). x.refusal) 256 a) k;
       values = (ap (λ (xs : List LookupAnswer). values_of xs) e ∙ column-fill (λ (x : Reply). x.value) 256 a) k;
       opened = (ap (λ (xs : List LookupAnswer). opened_of xs) e ∙ column-fill (λ (x : Reply). x.opened) 256 a) k;
-      ends = (ap end_numbers z ∙ no-numbers 256) k;
+      ends = z k;
     }
 
 pub loop-i-preserved : goal.loop-i-preserved
