@@ -6,7 +6,8 @@ use mathlib.Core.Logic.{◌≢◌}
 use mathlib.Core.Bool.{Bool, true, false}
 use mathlib.Core.List.{List}
 use native.Mathlib.Omega.{arith}
-use lib.ListN.{length, replicate, length-replicate}
+use lib.ListN.{length, replicate, take, length-replicate}
+use Rattle.std.proofs.lemmas.List.{get_or-take}
 use lib.Seq.{sets}
 use lib.Dec.{eqb}
 use borrow.Author.Tests.{eqb-true, eqb-false, lt-ltb, le-ltb}
@@ -26,6 +27,7 @@ use Rattle.batch_answer.specs.Ends.{Ends}
 use Rattle.batch_begin.specs.Begin.{Columns, first_refusal, first_parts}
 use Rattle.batch.specs.Batch.{lookup_opens, opened_at, batch_rows, long_number, batch_reply}
 use Rattle.batch_steps.specs.Steps.{Progress, progress_at, with_parts, stepped_at, stepped_all}
+use Rattle.batch_answer.proofs.EndsFront.{length-front, front-some, front-ends}
 use Rattle.batch_answer.proofs.Filled.{filled_is}
 use Rattle.batch_answer.proofs.Orders.{mounts-few, order-none}
 use Rattle.batch_answer.proofs.Tally.{tally-nowhere, tally-end, tally-low}
@@ -115,6 +117,13 @@ module _ (t : Table) (m : List ℕ) (tenant : ℕ) (ids : List ℕ) where
         length-set_below _ n parts.ends ∙ done.long.3,
       );
     }
+
+  -- the numbers of the ids alone
+  abbrev front : List ℕ → List ℕ
+  front ends = take n ends
+
+  front-long : {k : ℕ} (parts : Columns) → PartsFrom k parts → n ≤ length parts.ends
+  front-long parts d = omega (arith, d.few, d.long.3)
 
   -- no id has had more servers opened than there are
   pub opened-few : (k : ℕ) (parts : Columns) → PartsFrom k parts → t.count ≤ 256 → (i : ℕ) → i < n → nth parts.opened i ≤ 256
@@ -220,39 +229,47 @@ module _ (t : Table) (m : List ℕ) (tenant : ℕ) (ids : List ℕ) where
   -- server k is next: r is what the code's test says, whether it is opened
   module _ (k : ℕ) (parts : Columns) (mounted : ℕ) (from : BatchFrom (suc k) parts mounted)
       (next : Columns) (e : next ≡ stepped_all (read_p t k) (shape_of t) (used_of t k) m ids k parts)
-      (x : ℕ) (a : x ≡ suc k) {r : Bool} (h : r ≡ some_below (λ i. eqb (nth next.ends i) x) n) where
+      (x : ℕ) (a : x ≡ suc k) {r : Bool} (h : r ≡ some_below (λ i. eqb (nth (front next.ends) i) x) (length (front next.ends))) where
     there : k < t.count
     there = (ready-there k (omega (arith, from.below))).0
 
+    after : PartsFrom k next
+    after = rw e (next-parts k there parts from.done)
+
     opened-as : (b : Bool) → r ≡ b → some_below (λ i. opened_at t m tenant ids i k) n ≡ b
-    opened-as b q = sym (next-mounted k there parts from.done) ∙ sym (rw (e, a) at h) ∙ q
+    opened-as b q =
+        let told : r ≡ some_below (λ i. eqb (nth next.ends i) x) n = h ∙ front-some next.ends n (front-long next after) x in
+        sym (next-mounted k there parts from.done) ∙ sym (rw (e, a) at told) ∙ q
 
     pub batch-opened : r ≡ true → BatchFrom k next (mounted + 1)
     unfolding count_below
     batch-opened q =
         let c : mounted + (1 + count_below (λ j. some_below (λ i. opened_at t m tenant ids i j) n) k) ≡ mounts (opened_at t m tenant ids) n t.count =
         rw (opened-as true q) at from.counted in
-        record { done = rw e (next-parts k there parts from.done); below = omega (arith, from.below); counted = omega (arith, c) }
+        record { done = after; below = omega (arith, from.below); counted = omega (arith, c) }
 
     pub batch-closed : r ≡ false → BatchFrom k next mounted
     unfolding count_below
     batch-closed q =
         let c : mounted + (0 + count_below (λ j. some_below (λ i. opened_at t m tenant ids i j) n) k) ≡ mounts (opened_at t m tenant ids) n t.count =
         rw (opened-as false q) at from.counted in
-        record { done = rw e (next-parts k there parts from.done); below = omega (arith, from.below); counted = omega (arith, c) }
+        record { done = after; below = omega (arith, from.below); counted = omega (arith, c) }
 
   -- all servers are behind it; s is how many the code goes through
   module _ (parts : Columns) (mounted : ℕ) (from : BatchFrom 0 parts mounted) (s : ℕ) (b : s ≡ servers) where
-    pub ends-given : (s ≤ 256) × ((i : ℕ) → i < n → nth parts.ends i ≤ s)
-    ends-given = rw b (servers-few, servers-low parts from.done)
+    front-is : length (front parts.ends) ≡ n
+    front-is = length-front parts.ends n (front-long parts from.done)
+
+    pub ends-given : (length (front parts.ends) ≤ 256) × (s ≤ 256) × ((i : ℕ) → i < length (front parts.ends) → nth (front parts.ends) i ≤ s)
+    ends-given = rw (b, front-is) (from.done.few, servers-few, λ i l. rw (get_or-take n parts.ends i 0 l) (servers-low parts from.done i l))
 
     pub batch-done : (places : List ℕ)
-        → ((opened : ℕ → ℕ → Bool) → Ends opened n s parts.ends → places ≡ sets (replicate 256 0) 0 (order opened n s))
+        → ((opened : ℕ → ℕ → Bool) → Ends opened (length (front parts.ends)) s (front parts.ends) → places ≡ sets (replicate 256 0) 0 (order opened (length (front parts.ends)) s))
         → record { refusal = 0; mounts = mounted; refusals = parts.refusals; values = parts.values; opened = parts.opened; order = places } ≡ batch_reply t m tenant ids
     unfolding batch_reply settled_batch batch_by count_below
     batch-done places h =
         let d = from.done in
-        let e : places ≡ sets (replicate 256 0) 0 (order (opened_at t m tenant ids) n servers) = (rw b at h) (opened_at t m tenant ids) (servers-ends parts d) in
+        let e : places ≡ sets (replicate 256 0) 0 (order (opened_at t m tenant ids) n servers) = (rw (b, front-is) at h) (opened_at t m tenant ids) (front-ends parts.ends n (front-long parts d) _ _ (servers-ends parts d)) in
         same-batch (omega (arith, from.counted)) (last-refusals parts d) (last-values parts d) (last-opened parts d)
         (e ∙ ap (sets (replicate 256 0) 0) servers-order)
         ∙ sym (settle-yes (batch_rows t ids) _ _ (batch-accepted t ids d.few))

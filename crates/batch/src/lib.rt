@@ -73,11 +73,15 @@ pub fn lookup_batch_in(
     let mut mounts: usize = 0;
     for k in (0..servers).rev() {
         batch_steps::step_all(&mut parts, table, &steps, medium, ids, k);
-        if batch_answer::has(&parts.ends, n, k as u16 + 1) {
+        if batch_answer::has(&parts.ends[..n], k as u16 + 1) {
             mounts += 1;
         }
     }
-    gathered(&parts, mounts, batch_answer::order(&parts.ends, n, servers))
+    gathered(
+        &parts,
+        mounts,
+        batch_answer::order(&parts.ends[..n], servers),
+    )
 }
 
 // Looks a list of ids up for a tenant.

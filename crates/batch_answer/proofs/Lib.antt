@@ -1,4 +1,5 @@
 pub mod Precedence
+pub mod EndsFront
 pub mod Filled
 pub mod Orders
 pub mod Columns

@@ -3,7 +3,7 @@
 
 mod ordering;
 
-ghost use Rattle.std.specs.Prelude.{◌≡◌, ℕ, ◌≤◌, ◌<◌, eqb};
+ghost use Rattle.std.specs.Prelude.{◌≡◌, ℕ, ◌<◌, length, eqb};
 ghost use Rattle.limits.specs.Limits.{max_ids};
 ghost use Rattle.lists.specs.Below.{nth, some_below, total};
 ghost use Rattle.batch_answer.specs.Answer.{opened_of};
@@ -28,12 +28,11 @@ pub struct Batch {
     pub order: [u32; MAX_IDS],
 }
 
-// Whether one of the first `n` numbers is `x`.
-pub fn has(numbers: &[u16; MAX_IDS], n: usize, x: u16) -> bool
-    requires { n ≤ max_ids }
-    ensures { result ≡ some_below (λ i. eqb (nth numbers.now i) x) n }
+// Whether one of the numbers is `x`.
+pub fn has(numbers: &[u16], x: u16) -> bool
+    ensures { result ≡ some_below (λ i. eqb (nth numbers.now i) x) (length numbers.now) }
 {
-    numbers[..n].contains(&x)
+    numbers.contains(&x)
 }
 
 // How many servers the lookups of a batch opened, each counted for itself.

@@ -11,7 +11,8 @@ use limits::MAX_IDS;
 use replies::{LookupAnswer, Refusal};
 
 // How far the lookups of all ids are, in the order of the ids. An answer is `NotFound` while no entry was met, and an end is one
-// more than the last server opened for the id, or 0.
+// more than the last server opened for the id, or 0. Tried: `Option<u8>` for an end was proved, and with 256 servers 256 ids took
+// 22 % more instructions, since the library looks for a number in groups and for an option one at a time.
 #[derive(Clone, Copy)]
 pub struct Parts {
     pub answers: [LookupAnswer; MAX_IDS],

@@ -4,9 +4,9 @@
 
 ghost use Rattle.std.specs.Prelude.{◌≡◌, ◌+◌, ◌*◌, ◌≤◌, length, eqb};
 ghost use Rattle.limits.specs.Limits.{max_ids, max_capacity};
-ghost use Rattle.lists.specs.Below.{nth, some_below, set_below};
+ghost use Rattle.lists.specs.Below.{nth, some_below};
 ghost use Rattle.medium.specs.Entry.{entry_words, Inside};
-ghost use Rattle.batch_scan.specs.Scan.{slots, slot_of, block, is_set, Covers, met_by, Passed, NewestOf};
+ghost use Rattle.batch_scan.specs.Scan.{slots, slot_of, block, is_set, Covers, met_by, Met, Passed, NewestOf};
 
 use limits::MAX_IDS;
 use medium::{BLANK, ENTRY_WORDS, MARK_PLACE};
@@ -46,22 +46,19 @@ fn touches(filter: &[u8; SLOTS], medium: &[u32], at: usize) -> bool
     seen
 }
 
-// What an id's number becomes at an entry that has no mark: the entry is met if it bears the id and none was met before.
-fn meet_one(word: u32, id: u32, number: u32, entry: u32) -> u32
-    ensures { result ≡ met_by (eqb word id) entry number }
+// What an id's newest entry so far becomes at an entry that has no mark: the entry is met if it bears the id and none was met before.
+#[tactic(auto, unfolding(crate::specs::Scan::met_by))]
+fn meet_one(word: u32, id: u32, newest: Option<u32>, entry: u32) -> Option<u32>
+    ensures { result ≡ met_by (eqb word id) entry newest }
 {
-    if (number == 0) & (word == id) {
-        entry
-    } else {
-        number
-    }
+    let first = newest.is_none() & (word == id);
+    if first { Some(entry) } else { newest }
 }
 
-// Meets an entry without a mark, which has this id's word, for each of the ids. `entry` is one more than its number.
-fn meet(newest: &mut [u32; MAX_IDS], ids: &[u32], word: u32, entry: u32)
+// Meets an entry without a mark, which has this id's word, for each of the ids.
+fn meet(newest: &mut [Option<u32>; MAX_IDS], ids: &[u32], word: u32, entry: u32)
     requires { length ids.now ≤ max_ids }
-    ensures { newest.new
-        ≡ set_below (λ i. met_by (eqb word (nth ids.now i)) entry (nth newest.old i)) (length ids.now) newest.old }
+    ensures { Met word entry ids.now (length ids.now) newest.old newest.new }
 {
     for (i, id) in ids.iter().enumerate() {
         newest[i] = meet_one(word, *id, newest[i], entry);
@@ -71,7 +68,7 @@ fn meet(newest: &mut [u32; MAX_IDS], ids: &[u32], word: u32, entry: u32)
 // Passes the entries from `high` down to `low` of the server that begins at an address. An entry whose slot is not set bears none of
 // the ids, and an entry with a mark is none's.
 fn pass(
-    newest: &mut [u32; MAX_IDS],
+    newest: &mut [Option<u32>; MAX_IDS],
     filter: &[u8; SLOTS],
     ids: &[u32],
     medium: &[u32],
@@ -90,7 +87,7 @@ fn pass(
         let at = base + ENTRY_WORDS * j;
         let word = medium[at];
         if (filter[slot(word)] != 0) & (medium[at + MARK_PLACE] == BLANK) {
-            meet(newest, ids, word, j as u32 + 1);
+            meet(newest, ids, word, j as u32);
         }
     }
 }
@@ -98,7 +95,7 @@ fn pass(
 // Passes all entries, a block at a time: where no slot of a block is set nothing is to be met there. The entries below the lowest
 // whole block come last.
 fn pass_all(
-    newest: &mut [u32; MAX_IDS],
+    newest: &mut [Option<u32>; MAX_IDS],
     filter: &[u8; SLOTS],
     ids: &[u32],
     medium: &[u32],
@@ -122,25 +119,23 @@ fn pass_all(
     pass(newest, filter, ids, medium, base, 0, rest);
 }
 
-// The newest entry of each of the first `n` ids on a server.
+// The newest entry of each of the ids on a server.
 pub fn newest_of(
     capacity: u32,
     used: u32,
     medium: &[u32],
-    ids: &[u32; MAX_IDS],
-    n: usize,
+    ids: &[u32],
     server: usize,
-) -> [u32; MAX_IDS]
+) -> [Option<u32>; MAX_IDS]
     requires inside { Inside capacity server medium.now }
     requires used_le_capacity { used ≤ capacity }
-    requires n_le_max_ids { n ≤ max_ids }
-    ensures { NewestOf capacity used medium.now ids.now server n result }
+    requires ids_len_bound { length ids.now ≤ max_ids }
+    ensures { NewestOf capacity used medium.now ids.now server result }
 {
     let base = medium::server_at(capacity as usize, server);
-    let sought = &ids[..n];
     let mut filter: [u8; SLOTS] = [0; SLOTS];
-    fill(&mut filter, sought);
-    let mut newest: [u32; MAX_IDS] = [0; MAX_IDS];
-    pass_all(&mut newest, &filter, sought, medium, base, used as usize);
+    fill(&mut filter, ids);
+    let mut newest: [Option<u32>; MAX_IDS] = [None; MAX_IDS];
+    pass_all(&mut newest, &filter, ids, medium, base, used as usize);
     newest
 }

@@ -6,12 +6,13 @@ use mathlib.Core.Bool.{Bool, true, false, not, ◌&&◌}
 use mathlib.Core.List.{List}
 use native.Mathlib.Omega.{arith}
 use lib.ListN.{length, set, get_or, take}
-use lib.Seq.{get_or-take}
+use Rattle.std.proofs.lemmas.List.{get_or-take, length-take-le}
 use lib.Dec.{leb, eqb}
 use borrow.Author.Tests.{le-leb, lt-leb, leb-true, ltb-false, eqb-true, eqb-false, ne_eqb}
 use Rattle.limits.specs.Limits.{max_ids}
 use Rattle.lists.specs.Below.{nth, total, set_below}
 use Rattle.lists.proofs.Tests.{and_l, and_r, by_bool}
+use Rattle.lists.proofs.Below.{set_below-cong}
 use Rattle.table.specs.declared.Table.{Table}
 use Rattle.table.specs.Sound.{sound}
 use Rattle.table_words.specs.Words.{table_length, table_from, with_table}
@@ -143,9 +144,26 @@ module _ (t : Table) (m : List ℕ) (tenant : ℕ) (ids : List ℕ) {a : Result 
       let w = sym (column-at (λ (r : Reply). r.opened) b.answers i d refl) ∙ s.opened in
       λ k. record { refusal = x k; server = (q.0 ∙ sym p.server) k; value = y k; opened = w k; invalidated = (q.1 ∙ sym p.invalidated) k }
 
-  pub opened-small : (i : ℕ) → i < length ids → nth (opened_of b.answers) i < 4294967296
-  unfolding reply_of_batch
-  opened-small i l = omega (arith, (lookup-small t m tenant (nth ids i)).opened, (alone t m tenant ids _ answered no_refusal i l).opened)
+  -- the answers to the ids alone, without those that come after them in the array
+  module _ (long : length b.answers ≡ 256) where
+    abbrev front : List LookupAnswer
+    front = take (length ids) b.answers
+
+    pub length-front : length front ≡ length ids
+    length-front = length-take-le (length ids) b.answers (omega (arith, long, few-ids))
+
+    front-part : (i : ℕ) → i < length ids → lookup_part front i ≡ lookup_part b.answers i
+    unfolding lookup_part
+    front-part i l = ap reply_of_lookup (get_or-take (length ids) b.answers i (record { value = Ok 0; opened = 0 }) l)
+
+    pub parts-are : (i : ℕ) → i < length front → lookup_part front i ≡ lookup_reply t m tenant (nth ids i)
+    parts-are i l = front-part i (omega (arith, length-front)) ∙ part-is i (omega (arith, length-front))
+
+    pub opened-small : (i : ℕ) → i < length front → nth (opened_of front) i < 4294967296
+    unfolding lookup_part reply_of_lookup found_or
+    opened-small i l =
+        let same = column-at (λ (r : Reply). r.opened) front i (record { value = Ok 0; opened = 0 }) refl ∙ ap (λ (r : Reply). r.opened) (parts-are i l) in
+        omega (arith, (lookup-small t m tenant (nth ids i)).opened, same)
 
   pub mounts-small : t.count < 4294967296 → b.mounts < 4294967296
   unfolding reply_of_batch
@@ -156,6 +174,10 @@ replies-same : (f g : ℕ → Reply) (n : ℕ) (words : List ℕ) → ((i : ℕ)
 unfolding with_replies
 replies-same f g zero words h = refl
 replies-same f g (suc n) words h = ap₂ (λ (w : List ℕ) (r : Reply). with_reply w n r) (replies-same f g n words (λ i l. h i (omega arith))) (h n (omega arith))
+
+-- the first n numbers of a list, taken apart and stored
+front-stored : (xs words : List ℕ) (n : ℕ) → n ≤ length xs → set_below (nth (take n xs)) (length (take n xs)) words ≡ set_below (nth xs) n words
+front-stored xs words n l = rw (length-take-le n xs l) (set_below-cong (nth (take n xs)) (nth xs) n words (λ i b. get_or-take n xs i 0 b))
 
 -- what `lookup_batch` ensures where it answers a number
 abbrev pub Done : List ℕ → List ℕ → ℕ → List ℕ → List ℕ → List ℕ → List ℕ → ℕ → List ℕ → List ℕ → List ℕ → List ℕ → Type 0
@@ -180,31 +202,30 @@ module _ (table m : List ℕ) (tenant : ℕ) (ids replies order mounts : List �
     unfolding batch_stored reply_of_batch
     batch-refused {r} f = rw (stored, f, ne_eqb (number_of r) 0 (number-not-zero r)) (refl, (refl, (refl, (refl, refl))))
 
-    pub batch-done : {b : Batch} → a ≡ Ok b → (opened : ℕ) → opened ≡ total (nth (opened_of b.answers)) max_ids → (table' replies' order' mounts' : List ℕ)
+    pub batch-done : {b : Batch} → a ≡ Ok b → length b.answers ≡ 256 → length b.order ≡ 256 → (opened : ℕ) → opened ≡ total (nth (opened_of b.answers)) max_ids → (table' replies' order' mounts' : List ℕ)
         → table' ≡ with_table table (with_opened (table_from table) tenant opened)
-        → replies' ≡ with_replies (lookup_part b.answers) (length ids) replies → order' ≡ set_below (nth b.order) (length ids) order → mounts' ≡ set mounts 0 b.mounts
+        → replies' ≡ with_replies (lookup_part (take (length ids) b.answers)) (length (take (length ids) b.answers)) replies → order' ≡ set_below (nth (take (length ids) b.order)) (length (take (length ids) b.order)) order → mounts' ≡ set mounts 0 b.mounts
         → Done table m tenant ids replies order mounts 0 table' replies' order' mounts'
     unfolding batch_stored reply_of_batch
-    batch-done {b} f opened o table' replies' order' mounts' t x y w =
+    batch-done {b} f long wide opened o table' replies' order' mounts' t x y w =
         let s = counted-whole (table_from table) m tenant ids is f o in
+        let parts-same : with_replies (lookup_part (take (length ids) b.answers)) (length (take (length ids) b.answers)) replies ≡ with_replies (λ i. lookup_reply (table_from table) m tenant (nth ids i)) (length ids) replies =
+        replies-same _ _ _ replies (parts-are (table_from table) m tenant ids is f long) ∙ ap (λ (n : ℕ). with_replies (λ i. lookup_reply (table_from table) m tenant (nth ids i)) n replies) (length-front (table_from table) m tenant ids is f long) in
         rw (stored, f)
-        (refl, (t ∙ ap (with_table table) s, (x ∙ replies-same (lookup_part b.answers) _ (length ids) replies (part-is (table_from table) m tenant ids is f), (y, w))))
+        (refl, (t ∙ ap (with_table table) s, (x ∙ parts-same, (y ∙ front-stored b.order order (length ids) (omega (arith, wide, few-ids (table_from table) m tenant ids is f)), w))))
 
--- the answer at a position of the first n, as a loop over them reads it
-module _ (answers : List LookupAnswer) (n i : ℕ) (l : i < n) where
+-- the answer at a position
+module _ (answers : List LookupAnswer) (i : ℕ) where
   abbrev read : LookupAnswer
-  read = get_or (take n answers) i (record { value = Ok 0; opened = 0 })
+  read = get_or answers i (record { value = Ok 0; opened = 0 })
 
   pub part-read : reply_of_lookup read ≡ lookup_part answers i
   unfolding lookup_part
-  part-read = ap reply_of_lookup (get_or-take n answers i (record { value = Ok 0; opened = 0 }) l)
+  part-read = refl
 
   pub read-fits : nth (opened_of answers) i < 4294967296
       → ((reply_of_lookup read).server < 4294967296) × ((reply_of_lookup read).opened < 4294967296) × ((reply_of_lookup read).invalidated < 4294967296)
   unfolding reply_of_lookup found_or
   read-fits s =
-      let d : LookupAnswer = record { value = Ok 0; opened = 0 } in
-      let same = get_or-take n answers i d l in
       let p = answer-plain read.value read.opened in
-      let o : (found_or read.value read.opened).opened ≡ nth (opened_of answers) i = ap (λ (a : LookupAnswer). (reply_of_lookup a).opened) same ∙ sym (column-at (λ (r : Reply). r.opened) answers i d refl) in
-      (omega (arith, p.0), omega (arith, o, s), omega (arith, p.1))
+      (omega (arith, p.0), omega (arith, column-at (λ (r : Reply). r.opened) answers i (record { value = Ok 0; opened = 0 }) refl, s), omega (arith, p.1))

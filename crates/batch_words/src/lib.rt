@@ -2,7 +2,6 @@
 #![tactic(auto)]
 
 ghost use Rattle.std.specs.Prelude.{◌≡◌, ℕ, ◌≤◌, ◌<◌, ◌*◌, length};
-ghost use Rattle.limits.specs.Limits.{max_ids};
 ghost use Rattle.lists.specs.Below.{nth, set_below};
 ghost use Rattle.batch_answer.specs.Answer.{opened_of};
 ghost use Rattle.encoding.specs.Encoding.{reply_length};
@@ -10,7 +9,6 @@ ghost use Rattle.replay.specs.Replay.{with_replies};
 ghost use Rattle.batch_words.specs.BatchWords.{lookup_part, fits_batch, after_batch};
 
 use encoding::REPLY_LENGTH;
-use limits::MAX_IDS;
 use replies::LookupAnswer;
 use table_words::TABLE_LENGTH;
 
@@ -25,26 +23,23 @@ fn fits(table: &[u32], n: usize, replies: &[u32], order: &[u32], mounts: &[u32])
         && 1 <= mounts.len()
 }
 
-// Stores the reply to each of the first `n` ids.
-fn store_replies(answers: &[LookupAnswer; MAX_IDS], n: usize, replies: &mut [u32])
-    requires n_le_max_ids { n ≤ max_ids }
-    requires n_in_bounds { reply_length * n ≤ length replies.old }
-    requires by_index { (i : ℕ) → i < n → nth (opened_of answers.now) i < 4294967296 }
-    ensures { replies.new ≡ with_replies (lookup_part answers.now) n replies.old }
+// Stores the reply to each id.
+fn store_replies(answers: &[LookupAnswer], replies: &mut [u32])
+    requires answers_in_bounds { reply_length * length answers.now ≤ length replies.old }
+    requires by_index { (i : ℕ) → i < length answers.now → nth (opened_of answers.now) i < 4294967296 }
+    ensures { replies.new ≡ with_replies (lookup_part answers.now) (length answers.now) replies.old }
 {
-    for (i, answer) in answers[..n].iter().enumerate() {
+    for (i, answer) in answers.iter().enumerate() {
         encoding::store(replies, REPLY_LENGTH * i, replies::lookup_reply(*answer));
     }
 }
 
-// Stores the first `n` numbers of an array.
-fn store_front(array: &[u32; MAX_IDS], n: usize, words: &mut [u32])
-    requires array_len { length array.now ≡ max_ids }
-    requires n_le_max_ids { n ≤ max_ids }
-    requires n_in_bounds { n ≤ length words.old }
-    ensures { words.new ≡ set_below (nth array.now) n words.old }
+// Stores numbers at the front of the words. It stands apart since in the caller the same line needs three answers more to be proved.
+fn store_front(front: &[u32], words: &mut [u32])
+    requires { length front.now ≤ length words.old }
+    ensures { words.new ≡ set_below (nth front.now) (length front.now) words.old }
 {
-    words[..n].copy_from_slice(&array[..n]);
+    words[..front.len()].copy_from_slice(front);
 }
 
 // Looks many ids up together for a tenant, stores each id's reply, the order of finding and the number of servers opened, and
@@ -80,8 +75,8 @@ pub fn lookup_batch(
     match &batch::lookup_batch_in(&table_words::view_of(table), medium, tenant, ids) {
         Err(refusal) => refusal.number(),
         Ok(batch) => {
-            store_replies(&batch.answers, ids.len(), replies);
-            store_front(&batch.order, ids.len(), order);
+            store_replies(&batch.answers[..ids.len()], replies);
+            store_front(&batch.order[..ids.len()], order);
             mounts[0] = batch.mounts as u32;
             call_words::count_opened(table, tenant, batch_answer::sum(&batch.answers));
             0

@@ -78,7 +78,7 @@ order-requires c =
     let e : c.loop-k.k ≡ 0 = omega arith in
     let number = c.ready-ready.ensures in
     let g = ends-given t _ _ _ _ _ (rw e at c.loop-k.invariant) _ (gone-through t _ c.args.tenant c.args.ids.now number c.searched-servers.ensures) in
-    record { n_le_max_ids = (omega (arith, c.if-n-gt-MAX_IDS.false)); count_le_max_servers = g.0; by_index = g.1 }
+    record { ends_len_bound = g.0; count_le_max_servers = g.1; by_index = g.2 }
 
 pub returns : goal.returns
 unfolding reply_of_batch

@@ -1,6 +1,6 @@
 -- `batch_scan::newest_of` meets its contract: all entries are passed, with no entry met before.
-use Rattle.std.proofs.Common.{arith}
-use Rattle.lists.proofs.Below.{nth-zeros}
+use Rattle.std.proofs.Common.{None, arith}
+use Rattle.std.proofs.lemmas.List.{get_or-replicate}
 use Rattle.medium.proofs.Places.{server-next}
 use Rattle.batch_scan.proofs.Passing.{newest-all}
 use Rattle.batch_scan.proofs.newest_of.Goals as goal
@@ -12,4 +12,4 @@ pass_all-requires-clause-used_in_bounds c =
 pub returns : goal.returns
 returns c =
     let a = c.args in
-    newest-all a.capacity a.used a.medium.now a.ids.now a.server a.n c.server_at-base.result _ c.pass_all.new.newest c.server_at-base.ensures (nth-zeros 256) (omega arith) c.pass_all.ensures
+    newest-all a.capacity a.used a.medium.now a.ids.now a.server c.server_at-base.result _ c.pass_all.new.newest c.server_at-base.ensures (λ i l. get_or-replicate 256 i None None (omega arith)) c.pass_all.ensures

@@ -1,5 +1,5 @@
 -- `batch_scan::pass` meets its contract. The invariant: the entries from `j` on are passed.
-use Rattle.std.proofs.Common.{◌+◌, ◌*◌, ◌-◌, ◌≤◌, refl, length, eqb, arith, rules}
+use Rattle.std.proofs.Common.{◌+◌, ◌*◌, ◌-◌, refl, length, eqb, rules}
 use mathlib.Core.Bool.{not}
 use borrow.Author.Tests.{eqb-true}
 use Rattle.lists.specs.Below.{nth}
@@ -10,11 +10,10 @@ use Rattle.batch_scan.proofs.pass.Goals as goal
 pub loop-j-preserved-then-filter-slot : goal.loop-j-preserved-then-filter-slot
 loop-j-preserved-then-filter-slot c =
     let a = c.args in
-    let n = length a.ids.now in
-    let long : length a.ids.now ≤ length c.loop-j.newest = omega (arith, c.loop-j.invariant.1.long) in (
+    let n = length a.ids.now in (
       search rules,
       passed_then _ _ _ _ c.loop-j.invariant.1
-          (passed-met a.medium.now a.base a.ids.now n c.loop-j.j (a.base + 3 * (c.loop-j.j - 1)) (search rules) refl c.loop-j.newest c.meet.new.newest long (eqb-true _ _ (and_r (not (eqb (nth a.filter.now c.slot.result) 0)) _ c.if-filter-slot.true)) c.meet.ensures),
+          (passed-met a.medium.now a.base a.ids.now n c.loop-j.j (a.base + 3 * (c.loop-j.j - 1)) (search rules) refl c.loop-j.newest c.meet.new.newest (eqb-true _ _ (and_r (not (eqb (nth a.filter.now c.slot.result) 0)) _ c.if-filter-slot.true)) c.meet.ensures),
     )
 
 pub loop-j-preserved : goal.loop-j-preserved

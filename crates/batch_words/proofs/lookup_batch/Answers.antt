@@ -1,11 +1,13 @@
 -- `batch_words::lookup_batch` meets its contract: by whether the runs are long enough, then by whether the list is refused.
-use mathlib.Core.Path.{refl, sym, ap, ◌∙◌}
+use mathlib.Core.Path.{◌≡◌, refl, sym, ap, ◌∙◌}
 use native.Mathlib.Omega.{arith}
+use lib.ListN.{length}
+use Rattle.std.proofs.lemmas.List.{length-take-le}
 use borrow.Author.Rules.{rules}
 use Rattle.table.specs.declared.Table.{Table}
 use Rattle.table_words.specs.Words.{table_from}
 use Rattle.batch.proofs.Counting.{answered-small}
-use Rattle.batch_words.proofs.Storing.{long-runs, few-ids, opened-small, mounts-small, batch-short, batch-refused, batch-done}
+use Rattle.batch_words.proofs.Storing.{long-runs, few-ids, length-front, opened-small, mounts-small, batch-short, batch-refused, batch-done}
 use Rattle.batch_words.proofs.lookup_batch.Goals as goal
 
 pub returns-then-not-fits : goal.returns-then-not-fits
@@ -27,11 +29,14 @@ pub store_replies-requires : goal.store_replies-requires
 store_replies-requires c =
     let runs = long-runs _ c.args.table.now c.args.replies.now c.args.order.now c.args.mounts.now (sym c.fits.ensures ∙ c.if-not-fits.false) in
     let t = table_from c.args.table.now in
+    let is = rw c.view_of.ensures.table at c.lookup_batch_in.ensures in
     record {
-      n_le_max_ids = few-ids t c.args.medium.now c.args.tenant _ (rw c.view_of.ensures.table at c.lookup_batch_in.ensures) c.in-Ok.is;
-      n_in_bounds = runs.has_replies;
-      by_index = opened-small t c.args.medium.now c.args.tenant _ (rw c.view_of.ensures.table at c.lookup_batch_in.ensures) c.in-Ok.is;
+      answers_in_bounds = rw (length-front t c.args.medium.now c.args.tenant _ is c.in-Ok.is (search rules)) runs.has_replies;
+      by_index = opened-small t c.args.medium.now c.args.tenant _ is c.in-Ok.is (search rules);
     }
+
+pub shared_ref_as_front-store_replies : goal.shared_ref_as_front-store_replies
+shared_ref_as_front-store_replies c = few-ids (table_from c.args.table.now) c.args.medium.now c.args.tenant _ (rw c.view_of.ensures.table at c.lookup_batch_in.ensures) c.in-Ok.is
 
 pub sum-requires : goal.sum-requires
 sum-requires c = answered-small _ _ _ _ (rw c.view_of.ensures.table at c.lookup_batch_in.ensures) c.in-Ok.is
@@ -39,12 +44,9 @@ sum-requires c = answered-small _ _ _ _ (rw c.view_of.ensures.table at c.lookup_
 pub store_front-requires : goal.store_front-requires
 store_front-requires c =
     let runs = long-runs _ c.args.table.now c.args.replies.now c.args.order.now c.args.mounts.now (sym c.fits.ensures ∙ c.if-not-fits.false) in
-    let t = table_from c.args.table.now in
-    record {
-      array_len = search rules;
-      n_le_max_ids = few-ids t c.args.medium.now c.args.tenant _ (rw c.view_of.ensures.table at c.lookup_batch_in.ensures) c.in-Ok.is;
-      n_in_bounds = runs.has_order;
-    }
+    let few = few-ids (table_from c.args.table.now) c.args.medium.now c.args.tenant _ (rw c.view_of.ensures.table at c.lookup_batch_in.ensures) c.in-Ok.is in
+    let wide : length c.in-Ok.batch.order ≡ 256 = search rules in
+    omega (arith, length-take-le (length c.args.ids.now) c.in-Ok.batch.order (omega (arith, few, wide)), runs.has_order)
 
 pub count_opened-requires : goal.count_opened-requires
 count_opened-requires c = (long-runs _ c.args.table.now c.args.replies.now c.args.order.now c.args.mounts.now (sym c.fits.ensures ∙ c.if-not-fits.false)).has_table
@@ -59,5 +61,5 @@ bounds-mounts-0 c = omega (arith, (long-runs _ c.args.table.now c.args.replies.n
 pub returns-in-Ok : goal.returns-in-Ok
 returns-in-Ok c =
     let a = c.args in
-    let b = batch-done a.table.now a.medium.now a.tenant a.ids.now a.replies.now a.order.now a.mounts.now _ c.fits.ensures c.if-not-fits.false _ (rw c.view_of.ensures.table at c.lookup_batch_in.ensures) c.in-Ok.is _ c.sum.ensures _ _ _ _ c.count_opened.ensures c.store_replies.ensures c.store_front.ensures refl in
+    let b = batch-done a.table.now a.medium.now a.tenant a.ids.now a.replies.now a.order.now a.mounts.now _ c.fits.ensures c.if-not-fits.false _ (rw c.view_of.ensures.table at c.lookup_batch_in.ensures) c.in-Ok.is (search rules) (search rules) _ c.sum.ensures _ _ _ _ c.count_opened.ensures c.store_replies.ensures c.store_front.ensures refl in
     record { number = b.0; table = b.1.0; replies = b.1.1.0; order = b.1.1.1.0; mounts = b.1.1.1.1 }
