@@ -13,6 +13,7 @@ use batch_begin::Parts;
 use draws::Steps;
 use limits::MAX_IDS;
 use replies::Refusal;
+use scan::Server;
 use table::{Table, View};
 
 // Why a list that is too long is refused.
@@ -72,7 +73,13 @@ pub fn lookup_batch_in(
     batch_begin::begin(&mut parts, ready, tenant, ids);
     let mut mounts: usize = 0;
     for k in (0..servers).rev() {
-        batch_steps::step_all(&mut parts, table, &steps, medium, ids, k);
+        let server = Server {
+            medium,
+            capacity: table.shape.capacity as usize,
+            used: table.used[k] as usize,
+            number: k,
+        };
+        batch_steps::step_all(&mut parts, table, &steps, &server, ids);
         if batch_answer::has(&parts.ends[..n], k as u16 + 1) {
             mounts += 1;
         }

@@ -5,11 +5,12 @@
 ghost use Rattle.std.specs.Prelude.{◌≡◌, ◌+◌, ◌*◌, ◌≤◌, length, eqb};
 ghost use Rattle.limits.specs.Limits.{max_ids, max_capacity};
 ghost use Rattle.lists.specs.Below.{nth, some_below};
-ghost use Rattle.medium.specs.Entry.{entry_words, Inside};
+ghost use Rattle.medium.specs.Entry.{entry_words};
 ghost use Rattle.batch_scan.specs.Scan.{slots, slot_of, block, is_set, Covers, met_by, Met, Passed, NewestOf};
 
 use limits::MAX_IDS;
 use medium::{BLANK, ENTRY_WORDS, MARK_PLACE};
+use scan::Server;
 
 // The slots of a filter. An id has one of them, and an entry whose slot is 0 bears none of the ids that the filter was filled for.
 const SLOTS: usize = 4096;
@@ -120,22 +121,14 @@ fn pass_all(
 }
 
 // The newest entry of each of the ids on a server.
-pub fn newest_of(
-    capacity: u32,
-    used: u32,
-    medium: &[u32],
-    ids: &[u32],
-    server: usize,
-) -> [Option<u32>; MAX_IDS]
-    requires inside { Inside capacity server medium.now }
-    requires used_le_capacity { used ≤ capacity }
-    requires ids_len_bound { length ids.now ≤ max_ids }
-    ensures { NewestOf capacity used medium.now ids.now server result }
+pub fn newest_of(server: &Server<'_>, ids: &[u32]) -> [Option<u32>; MAX_IDS]
+    requires { length ids.now ≤ max_ids }
+    ensures { NewestOf server.now.capacity server.now.used server.now.medium.now ids.now server.now.number result }
 {
-    let base = medium::server_at(capacity as usize, server);
+    let base = medium::server_at(server.capacity, server.number);
     let mut filter: [u8; SLOTS] = [0; SLOTS];
     fill(&mut filter, ids);
     let mut newest: [Option<u32>; MAX_IDS] = [None; MAX_IDS];
-    pass_all(&mut newest, &filter, ids, medium, base, used as usize);
+    pass_all(&mut newest, &filter, ids, server.medium, base, server.used);
     newest
 }

@@ -4,15 +4,14 @@
 ghost use Rattle.std.specs.Prelude.{◌≡◌, ℕ, ◌≤◌, ◌<◌, length};
 ghost use Rattle.limits.specs.Limits.{max_servers, max_ids};
 ghost use Rattle.lists.specs.Below.{nth};
-ghost use Rattle.medium.specs.Entry.{Inside};
-ghost use Rattle.table.specs.Parts.{table_of, read_p, used_of};
+ghost use Rattle.table.specs.Parts.{table_of, read_p};
 ghost use Rattle.batch_begin.specs.Begin.{columns_of};
 ghost use Rattle.batch_steps.specs.Steps.{progress_of, stepped, stepped_all};
 
 use batch_begin::Parts;
 use draws::Steps;
 use replies::{LookupAnswer, Refusal};
-use search::Place;
+use scan::Server;
 use table::View;
 
 // Takes one server for one id, of which this is the answer so far and the end: the server is opened if no entry of the id was met
@@ -22,29 +21,26 @@ fn step(
     end: &mut u16,
     table: &View<'_>,
     steps: &Steps,
-    medium: &[u32],
+    server: &Server<'_>,
     id: u32,
-    server: usize,
 )
-    requires inside { Inside table.now.shape.capacity server medium.now }
-    requires used_le_capacity { used_of (table_of table.now) server ≤ table.now.shape.capacity }
+    requires of_the_table { server.now.capacity ≡ table.now.shape.capacity }
     requires opened_le_max_servers { answer.old.opened ≤ max_servers }
     ensures { progress_of answer.new end.new
-        ≡ stepped (read_p (table_of table.now) server) table.now.shape (used_of (table_of table.now) server) medium.now id server
-        (progress_of answer.old end.old) }
+        ≡ stepped (read_p (table_of table.now) server.now.number) table.now.shape server.now.used server.now.medium.now id
+        server.now.number (progress_of answer.old end.old) }
 {
-    let shape = table.shape;
+    let k = server.number;
     if answer.value != Err(Refusal::NotFound) {
         return;
     }
-    if !placement::takes(table.read_p(server), steps, shape.salt, id, server) {
+    if !placement::takes(table.read_p(k), steps, table.shape.salt, id, k) {
         return;
     }
     answer.opened += 1;
-    *end = server as u16 + 1;
-    let used = table.used[server] as usize;
-    if let Some(entry) = scan::newest(medium, shape.capacity as usize, used, id, server) {
-        answer.value = lookup::met(shape.capacity, medium, Place { server, entry });
+    *end = k as u16 + 1;
+    if let Some(entry) = server.newest(id) {
+        answer.value = lookup::met(server, entry);
     }
 }
 
@@ -53,27 +49,18 @@ pub fn step_all(
     parts: &mut Parts,
     table: &View<'_>,
     steps: &Steps,
-    medium: &[u32],
+    server: &Server<'_>,
     ids: &[u32],
-    server: usize,
 )
-    requires inside { Inside table.now.shape.capacity server medium.now }
-    requires used_le_capacity { used_of (table_of table.now) server ≤ table.now.shape.capacity }
+    requires of_the_table { server.now.capacity ≡ table.now.shape.capacity }
     requires ids_len_bound { length ids.now ≤ max_ids }
     requires by_index { (i : ℕ) → i < length ids.now → nth (columns_of parts.old).opened i ≤ max_servers }
     ensures { columns_of parts.new
-        ≡ stepped_all (read_p (table_of table.now) server) table.now.shape (used_of (table_of table.now) server) medium.now ids.now server
-        (columns_of parts.old) }
+        ≡ stepped_all (read_p (table_of table.now) server.now.number) table.now.shape server.now.used server.now.medium.now ids.now
+        server.now.number (columns_of parts.old) }
 {
     for (i, id) in ids.iter().enumerate() {
-        step(
-            &mut parts.answers[i],
-            &mut parts.ends[i],
-            table,
-            steps,
-            medium,
-            *id,
-            server,
-        );
+        let answer = &mut parts.answers[i];
+        step(answer, &mut parts.ends[i], table, steps, server, *id);
     }
 }

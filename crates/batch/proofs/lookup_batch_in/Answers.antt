@@ -1,8 +1,8 @@
 -- `batch::lookup_batch_in` meets its contract: the servers that the tests leave, and each of them for every id.
-use Prim.Native.Nat.{ℕ, suc, ◌+◌, ◌-◌}
+use Prim.Native.Nat.{ℕ, suc, ◌+◌, ◌-◌, ◌<◌}
 use mathlib.Core.Bool.{false, cond}
 use mathlib.Core.List.{List}
-use mathlib.Core.Path.{◌≡◌, ap, ◌∙◌}
+use mathlib.Core.Path.{◌≡◌, refl, ap, ◌∙◌}
 use native.Mathlib.Omega.{arith}
 use lib.Dec.{eqb}
 use Rattle.lists.specs.Below.{nth}
@@ -35,26 +35,40 @@ loop-k-init c =
     let number = c.ready-ready.ensures in
     batch-start t c.args.medium.now c.args.tenant c.args.ids.now (omega (arith, c.if-n-gt-MAX_IDS.false)) _ _ number (gone-through t _ c.args.tenant c.args.ids.now number c.searched-servers.ensures) _ c.begin.ensures
 
+pub invariant_of-server : goal.invariant_of-server
+invariant_of-server c =
+    let t = table_of c.args.table.now in
+    let h = ready-there t c.args.medium.now c.args.tenant c.args.ids.now (c.loop-k.k - 1) (omega (arith, c.loop-k.invariant.below)) in
+    record {
+      inside = each-inside t.capacity t.count (c.loop-k.k - 1) (nth t.used) c.args.medium.now h.1.inside h.0;
+      few = h.1.inside.fits (c.loop-k.k - 1) h.0;
+    }
+
 pub step_all-requires : goal.step_all-requires
 step_all-requires c =
     let t = table_of c.args.table.now in
     let h = ready-there t c.args.medium.now c.args.tenant c.args.ids.now (c.loop-k.k - 1) (omega (arith, c.loop-k.invariant.below)) in
     record {
-      inside = each-inside t.capacity t.count (c.loop-k.k - 1) (nth t.used) c.args.medium.now h.1.inside h.0;
-      used_le_capacity = h.1.inside.fits (c.loop-k.k - 1) h.0;
+      of_the_table = refl;
       ids_len_bound = (omega (arith, c.if-n-gt-MAX_IDS.false));
       by_index = opened-few t c.args.medium.now c.args.tenant c.args.ids.now c.loop-k.k (columns_of c.loop-k.parts) c.loop-k.invariant.done h.1.inside.few;
     }
 
+-- a server that the code goes through is one of 256
+server-few : (t : Table) (m : List ℕ) (tenant : ℕ) (ids : List ℕ) (k : ℕ) → k < servers t m tenant ids → k < 256
+server-few t m tenant ids k l = let h = ready-there t m tenant ids k l in omega (arith, h.0, h.1.inside.few)
+
+pub bounds-table-k : goal.bounds-table-k
+bounds-table-k c = server-few (table_of c.args.table.now) c.args.medium.now c.args.tenant c.args.ids.now (c.loop-k.k - 1) (omega (arith, c.loop-k.invariant.below))
+
+pub offset_bounds-table-k : goal.offset_bounds-table-k
+offset_bounds-table-k c = omega (arith, bounds-table-k c)
+
 pub overflow_cast-k : goal.overflow_cast-k
-overflow_cast-k c =
-    let h = ready-there (table_of c.args.table.now) c.args.medium.now c.args.tenant c.args.ids.now (c.loop-k.k - 1) (omega (arith, c.loop-k.invariant.below)) in
-    omega (arith, h.0, h.1.inside.few)
+overflow_cast-k c = omega (arith, server-few (table_of c.args.table.now) c.args.medium.now c.args.tenant c.args.ids.now (c.loop-k.k - 1) (omega (arith, c.loop-k.invariant.below)))
 
 pub overflow_add-k : goal.overflow_add-k
-overflow_add-k c =
-    let h = ready-there (table_of c.args.table.now) c.args.medium.now c.args.tenant c.args.ids.now (c.loop-k.k - 1) (omega (arith, c.loop-k.invariant.below)) in
-    omega (arith, h.0, h.1.inside.few)
+overflow_add-k c = omega (arith, server-few (table_of c.args.table.now) c.args.medium.now c.args.tenant c.args.ids.now (c.loop-k.k - 1) (omega (arith, c.loop-k.invariant.below)))
 
 pub overflow_add-mounts : goal.overflow_add-mounts
 overflow_add-mounts c =

@@ -20,19 +20,19 @@ returns-then-not-takes c =
     let absent : c.args.answer.now.value ≡ Err NotFound = search rules in
     step-skipped _ _ _ _ _ _ _ (is-absent c.args.answer.now c.args.end.now absent) (rw c.read_p.ensures at c.takes.ensures) c.if-not-takes.true
 
-pub met-answer-requires-clause-lt_capacity : goal.met-answer-requires-clause-lt_capacity
-met-answer-requires-clause-lt_capacity c =
-    omega (arith, c.requires.used_le_capacity, newest-used _ _ _ _ _ c.newest.ensures _ c.in-Some.is)
+pub met-answer-requires : goal.met-answer-requires
+met-answer-requires c =
+    omega (arith, c.args.server.now.few, newest-used _ _ _ _ _ c.newest.ensures _ c.in-Some.is)
 
 pub returns-in-Some : goal.returns-in-Some
 returns-in-Some c =
     let absent : c.args.answer.now.value ≡ Err NotFound = search rules in
     met-answer c.args.answer.now c.args.end.now absent _ _
-    ∙ step-met _ _ _ _ _ _ _ (is-absent c.args.answer.now c.args.end.now absent) (rw c.read_p.ensures at c.takes.ensures) c.if-not-takes.false c.newest.ensures _ c.in-Some.is
-    (c.met-answer.ensures ((progress_of c.args.answer.now c.args.end.now).opened + 1))
+    ∙ step-met _ _ _ _ _ _ _ (is-absent c.args.answer.now c.args.end.now absent) (rw c.read_p.ensures at c.takes.ensures) c.if-not-takes.false (rw c.requires.of_the_table at c.newest.ensures) _ c.in-Some.is
+    (rw c.requires.of_the_table at (c.met-answer.ensures ((progress_of c.args.answer.now c.args.end.now).opened + 1)))
 
 pub returns-in_default : goal.returns-in_default
 returns-in_default c =
     let absent : c.args.answer.now.value ≡ Err NotFound = search rules in
     passed-answer c.args.answer.now c.args.end.now absent _
-    ∙ step-passed _ _ _ _ _ _ _ (is-absent c.args.answer.now c.args.end.now absent) (rw c.read_p.ensures at c.takes.ensures) c.if-not-takes.false c.newest.ensures c.in_default.is
+    ∙ step-passed _ _ _ _ _ _ _ (is-absent c.args.answer.now c.args.end.now absent) (rw c.read_p.ensures at c.takes.ensures) c.if-not-takes.false (rw c.requires.of_the_table at c.newest.ensures) c.in_default.is
