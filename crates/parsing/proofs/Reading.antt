@@ -1,36 +1,30 @@
 -- Reading step by step: the digits at the front, the number that they make, and the line of a letter and its numbers.
 -- Assumes nothing.
-use Rattle.std.proofs.Common.{◌≡◌, ◌≢◌, ℕ, zero, suc, ◌+◌, ◌-◌, ◌*◌, ◌^◌, ◌≤◌, ◌<◌, min, Bool, true, false, cond, ltb, eqb, List, Option, Some, None, length, get_or, take, drop, take_all, length-drop, length-take, get_or-take, get_or-drop, add-one, arith}
+use Rattle.std.proofs.Common.{◌≡◌, ◌≢◌, ℕ, zero, suc, ◌+◌, ◌-◌, ◌≤◌, ◌<◌, min, Bool, true, false, cond, ltb, eqb, List, Option, Some, None, Result, Ok, Err, refl, length, get_or, take, drop, take_all, length-drop, length-take, get_or-take, get_or-drop, add-one, arith}
+use Rattle.std.specs.Char.{digit_value}
+use Rattle.std.specs.Int.{IsInRange}
 use Rattle.std.specs.List.{prefix_len}
+use Rattle.std.specs.Option.{option_map}
+use Rattle.std.specs.Result.{OkIff, result_ok}
+use Rattle.std.specs.Str.{IsUtf8}
+use Rattle.std.specs.Str.Parse.{digits_value, ParsesUnsigned}
+use Rattle.std.proofs.lemmas.Fmt.{IsAscii-from_digits}
+use Rattle.std.proofs.lemmas.Int.Digits.{digits_value_more}
 use Rattle.std.proofs.lemmas.List.Sums.{prefix_len-drop_yes, prefix_len-drop_no, prefix_len-drop_all, prefix_len_passes}
 use Rattle.std.proofs.lemmas.List.Folds.{length-prefix_len}
-use native.Mathlib.Nat.{pow-le-pow_right}
+use Rattle.std.proofs.lemmas.Str.{IsUtf8-from_ascii, digit_value_digit}
+use Rattle.std.proofs.lemmas.Str.Parse.{numerals_by_value, tells_by_index, parse_digits}
 use lib.ListN.{get_or-eq_default}
-use borrow.Author.Tests.{le-leb, lt-ltb, le-ltb, ltb-true, ltb-false, eq-eqb, ne_eqb, leb-true}
+use borrow.Author.Tests.{le-leb, lt-ltb, ltb-true, ltb-false, eq-eqb, ne_eqb, leb-true}
 use Rattle.lists.specs.Below.{nth}
 use Rattle.lists.proofs.Tests.{by_bool, and_l, and_r}
 use Rattle.parsing.specs.declared.Line.{Line}
 use Rattle.parsing.specs.Line.{is_digit, digit_run, value_of, Number, number_at, spaced, line_by, has_two, last, first, line_of}
 
--- what the next digit makes of a value, and that ten digits fit
-pub next-value : (s : List ℕ) (from n v : ℕ) → v ≡ value_of s from n → v * 10 + (nth s (from + n) - 48) ≡ value_of s from (n + 1)
-unfolding value_of
-next-value s from n v e = rw (add-one, e)
-
-pub next-bound : (v n d : ℕ) → v < 10 ^ n → d ≤ 9 → v * 10 + d < 10 ^ (n + 1)
-next-bound v n d l h = rw add-one (omega arith)
-
-pub ten-small : (v n : ℕ) → v < 10 ^ n → n ≤ 10 → v < 10000000000
-ten-small v n l h = let m : 10 ^ n ≤ 10 ^ 10 = pow-le-pow_right (omega arith) h in omega arith
-
 -- a byte that is a digit
-digit-low : (b : ℕ) → is_digit b ≡ true → 48 ≤ b
+digit_range : (b : ℕ) → is_digit b ≡ true → IsInRange 48 57 b
 unfolding is_digit
-digit-low b e = leb-true 48 b (and_l _ _ e)
-
-digit-high : (b : ℕ) → is_digit b ≡ true → b ≤ 57
-unfolding is_digit
-digit-high b e = leb-true b 57 (and_r _ _ e)
+digit_range b e = (leb-true 48 b (and_l _ _ e), leb-true b 57 (and_r _ _ e))
 
 module _ (s : List ℕ) (from : ℕ) where
   none-past : length s ≤ from → is_digit (nth s from) ≡ false
@@ -59,6 +53,10 @@ counted s (suc n) from = by_bool (is_digit (nth s from))
 abbrev pub rest : List ℕ → ℕ → List ℕ
 rest s from = take (length s - from) (drop from s)
 
+-- the first d bytes of it
+abbrev pub text : List ℕ → ℕ → ℕ → List ℕ
+text s from d = take d (rest s from)
+
 module _ (s : List ℕ) (from d : ℕ) (h : from ≤ length s) (e : d ≡ prefix_len is_digit (rest s from)) where
   front : d ≡ prefix_len is_digit (drop from s)
   front =
@@ -66,18 +64,37 @@ module _ (s : List ℕ) (from d : ℕ) (h : from ≤ length s) (e : d ≡ prefix
       rw whole at e
 
   -- the digits at the front are inside, and are those of the line
-  pub digits-inside : length (take d (rest s from)) ≡ d
+  digits-inside : length (text s from d) ≡ d
   digits-inside = rw e (length-prefix_len is_digit (rest s from))
 
-  pub digit_there : (k : ℕ) → k < length (take d (rest s from))
-      → (get_or (take d (rest s from)) k 0 ≡ nth s (from + k)) × ((48 ≤ nth s (from + k)) × (nth s (from + k) ≤ 57))
+  digit_there : (k : ℕ) → k < length (text s from d)
+      → (get_or (text s from d) k 0 ≡ nth s (from + k)) × IsInRange 48 57 (get_or (text s from d) k 0)
   digit_there k l =
       let b : k < d = omega (arith, digits-inside) in
       let p : k < length s - from = omega (arith, l, simp (length-take, length-drop) at l) in
-      let at : get_or (take d (rest s from)) k 0 ≡ nth s (from + k) = rw (get_or-take, get_or-take, get_or-drop) in
+      let at : get_or (text s from d) k 0 ≡ nth s (from + k) = rw (get_or-take, get_or-take, get_or-drop) in
       let i : k < prefix_len is_digit (drop from s) = omega (arith, front) in
       let digit : is_digit (nth s (from + k)) ≡ true = rw get_or-drop at (prefix_len_passes is_digit (drop from s) k 0 i) in
-      (at, (digit-low _ digit, digit-high _ digit))
+      (at, rw at (digit_range _ digit))
+
+  -- they are ASCII
+  pub is_text : IsUtf8 (text s from d)
+  is_text = IsUtf8-from_ascii _ (IsAscii-from_digits _ ((numerals_by_value _ tells_by_index).to _ (λ k l. (digit_there k l).1)))
+
+  -- the value of the first k of them
+  value_so_far : (k : ℕ) → k ≤ d → digits_value 10 (take k (text s from d)) ≡ value_of s from k
+  unfolding value_of
+  value_so_far zero l = refl
+  value_so_far (suc k) l =
+      let t = digit_there k (omega (arith, digits-inside)) in
+      let v = digits_value_more 10 (text s from d) k (omega (arith, digits-inside)) in
+      let g : digit_value (get_or (text s from d) k 0) ≡ nth s (from + k) - 48 = omega (arith, digit_value_digit _ t.1, t.0) in
+      rw (add-one, value_so_far k (omega arith), g) at v
+
+  value-is : digits_value 10 (text s from d) ≡ value_of s from d
+  value-is =
+      let all : take d (text s from d) ≡ text s from d = take_all _ _ (omega (arith, digits-inside)) in
+      rw all at (value_so_far d (omega arith))
 
   run-is : digit_run s from 11 ≡ min 11 d
   run-is = rw front (counted s 11 from)
@@ -90,17 +107,24 @@ module _ (s : List ℕ) (from d : ℕ) (h : from ≤ length s) (e : d ≡ prefix
   unfolding number_at
   too_long l = let r : digit_run s from 11 ≡ 11 = omega (arith, run-is) in rw r
 
-  module _ (p : d ≢ 0) (l : d ≤ 10) (v : ℕ) (w : v ≡ value_of s from d) where
+  module _ (p : d ≢ 0) (l : d ≤ 10) where
     run_all : digit_run s from 11 ≡ d
     run_all = omega (arith, run-is)
 
-    pub number_read : v < 4294967296 → Some (v, from + d) ≡ number_at s from
+    by_value : {E : Type 0} (r : Result ℕ E) → OkIff r ((0 < d) × (value_of s from d < 4294967296)) (value_of s from d)
+        → option_map (λ v. (v, from + d)) (result_ok r) ≡ number_at s from
     unfolding number_at
-    number_read b = rw (run_all, le-leb 1 d (omega arith), le-leb d 10 l, ← w, lt-ltb v 4294967296 b)
+    by_value (Ok x) h = rw (run_all, le-leb 1 d (omega arith), le-leb d 10 l, h.1, lt-ltb _ _ h.0.1)
+    by_value (Err _) h = by_bool (ltb (value_of s from d) 4294967296)
+        (λ t. absurd (h (omega arith, ltb-true _ _ t)))
+        (λ f. rw (run_all, le-leb 1 d (omega arith), le-leb d 10 l, f))
 
-    pub too-high : 4294967296 ≤ v → None ≡ number_at s from
-    unfolding number_at
-    too-high b = rw (run_all, le-leb 1 d (omega arith), le-leb d 10 l, ← w, le-ltb v 4294967296 b)
+    -- what the library parses in the digits
+    pub number_parsed : {E : Type 0} (r : Result ℕ E) → ParsesUnsigned 32 10 (text s from d) r
+        → option_map (λ v. (v, from + d)) (result_ok r) ≡ number_at s from
+    number_parsed r h =
+        let digits = parse_digits (numerals_by_value _ tells_by_index) 32 (text s from d) r h (λ k i. (digit_there k i).1) in
+        by_value r (rw (value-is, digits-inside) at digits)
 
 -- the number after one space
 pub past_end : (s : List ℕ) (at : ℕ) → length s ≤ at → None ≡ spaced s at

@@ -26,6 +26,7 @@ fn digits(bytes: &[u8]) -> usize
 }
 
 // The number that begins at a position, of 1 to 10 digits and below 2^32, and the position after it.
+#[tactic(auto, using(crate::proofs::Reading::no_digit, crate::proofs::Reading::too_long, crate::proofs::Reading::is_text, crate::proofs::Reading::number_parsed))]
 fn number_at(line: &[u8], from: usize) -> Option<(u32, usize)>
     requires { from ≤ length line.now }
     ensures { result ≡ number_at line.now from }
@@ -35,11 +36,8 @@ fn number_at(line: &[u8], from: usize) -> Option<(u32, usize)>
     if digits == 0 || digits > MOST_DIGITS {
         return None;
     }
-    let mut value: u64 = 0;
-    for b in &rest[..digits] {
-        value = value * 10 + u64::from(b - b'0');
-    }
-    let value = u32::try_from(value).ok()?;
+    let text = str::from_utf8(&rest[..digits]).ok()?;
+    let value = text.parse::<u32>().ok()?;
     Some((value, from + digits))
 }
 
