@@ -38,12 +38,7 @@ fn bears_some(medium: &[u32], from: usize, n: usize, id: u32) -> bool
     requires { from + entry_words * n ≤ length medium.now }
     ensures { result ≡ some_below (λ i. bears_at medium.now id (from + entry_words * i)) n }
 {
-    for i in 0..n {
-        if medium::bears(medium, from + ENTRY_WORDS * i, id) {
-            return true;
-        }
-    }
-    false
+    (0..n).any(|i| medium::bears(medium, from + ENTRY_WORDS * i, id))
 }
 
 // The entries that are left to a search of a server for an id once the blocks from the highest entry down that do not bear it are passed
@@ -96,11 +91,5 @@ pub fn newest(medium: &[u32], capacity: usize, used: usize, id: u32, server: usi
     ensures { result ≡ highest (live capacity used medium.now id server) used }
 {
     let entries = left(medium, capacity, used, id, server);
-    for j in (0..entries).rev() {
-        let at = medium::entry_at(capacity, server, j);
-        if medium::bears(medium, at, id) {
-            return Some(j);
-        }
-    }
-    None
+    (0..entries).rev().find(|&j| medium::bears(medium, medium::entry_at(capacity, server, j), id))
 }
