@@ -9,8 +9,12 @@ use Rattle.std.proofs.Common.{Some}
 use lib.Dec.{eqb}
 use lib.ListN.{length, get_or, take, drop}
 use Rattle.std.proofs.Math.Bool.{or_comm}
+use Rattle.std.specs.List.{list_any, range_with_len}
+use Rattle.std.proofs.lemmas.List.{take_all}
+use Rattle.std.proofs.lemmas.List.FromFn.{length-range_with_len, get_or-range_with_len}
 use Rattle.lists.specs.Below.{nth, some_below, highest}
-use Rattle.lists.proofs.Below.{some_below-out, some_below-next, highest-last, highest-below}
+use Rattle.lists.proofs.Below.{some_below-out, some_below-next, some_below-cong, highest-last, highest-below}
+use Rattle.lists.proofs.Listed.{some_below-take}
 use Rattle.medium.specs.Word.{id_word}
 use Rattle.medium.specs.Entry.{entry_words, entry_at, bears_at, live, Inside}
 use Rattle.medium.proofs.Places.{entry-on, entries-inside}
@@ -22,6 +26,14 @@ has_word m id from n = some_below (λ i. eqb (nth m (from + i)) (id_word id)) n
 
 abbrev pub bears_some : List ℕ → ℕ → ℕ → ℕ → Bool
 bears_some m id from n = some_below (λ i. bears_at m id (from + entry_words * i)) n
+
+-- a test of the numbers below n, one after another
+pub some-numbers : (p : ℕ → Bool) (n : ℕ) → list_any p (range_with_len 0 n) ≡ some_below p n
+some-numbers p n =
+    let whole : take n (range_with_len 0 n) ≡ range_with_len 0 n = take_all n _ (omega (arith, length-range_with_len 0 n)) in
+    ap (list_any p) (sym whole)
+    ∙ sym (some_below-take p (range_with_len 0 n) n (omega (arith, length-range_with_len 0 n)))
+    ∙ some_below-cong _ p n (λ k l. let e : nth (range_with_len 0 n) k ≡ k = omega (arith, get_or-range_with_len 0 n k 0 l) in ap p e)
 
 -- the words of a run are a slice, and its next word is the slice's
 pub has-next : (m : List ℕ) (id from n i : ℕ) {found : Bool} → i < n → found ≡ has_word m id from i

@@ -38,12 +38,7 @@ fn bears_some(medium: &[u32], from: usize, n: usize, id: u32) -> bool
     requires { from + entry_words * n ≤ length medium.now }
     ensures { result ≡ some_below (λ i. bears_at medium.now id (from + entry_words * i)) n }
 {
-    for i in 0..n {
-        if medium::bears(medium, from + ENTRY_WORDS * i, id) {
-            return true;
-        }
-    }
-    false
+    (0..n).any(|i| medium::bears(medium, from + ENTRY_WORDS * i, id))
 }
 
 // One server of a medium: the words that are lent as the medium, the capacity of a server, how many entries are used on this one, and its
@@ -103,12 +98,11 @@ impl Server<'_> {
     pub fn newest(&self, id: u32) -> Option<usize>
         ensures { result ≡ highest (live self.now.capacity self.now.used self.now.medium.now id self.now.number) self.now.used }
     {
-        for j in (0..self.left(id)).rev() {
-            let at = medium::entry_at(self.capacity, self.number, j);
-            if medium::bears(self.medium, at, id) {
-                return Some(j);
-            }
-        }
-        None
+        let entries = self.left(id);
+        (0..entries).rev().find(|&j| medium::bears(
+            self.medium,
+            medium::entry_at(self.capacity, self.number, j),
+            id,
+        ))
     }
 }

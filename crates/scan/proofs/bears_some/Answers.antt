@@ -1,15 +1,14 @@
--- `scan::bears_some` meets its contract. The invariant: no entry passed bears the id.
-use Rattle.std.proofs.Common.{refl, sym, ◌∙◌, rules}
-use Rattle.lists.specs.Below.{some_below}
-use Rattle.lists.proofs.Below.{some_below-in, some_below-more}
+-- `scan::bears_some` meets its contract: whether an entry's test passes at one of the numbers below n.
+use Rattle.std.proofs.Common.{◌+◌, ◌*◌, ◌∙◌, refl, arith, rules}
+use borrow.Author.Tests.{tests}
+use Rattle.std.proofs.lemmas.Iterator.{YieldsList-from_range}
+use Rattle.std.proofs.lemmas.Iterator.Search.{any_from_yields_List}
+use Rattle.medium.specs.Entry.{entry_words, bears_at}
+use Rattle.scan.proofs.Passing.{some-numbers}
 use Rattle.scan.proofs.bears_some.Goals as goal
 
-pub loop-i-init : goal.loop-i-init
-unfolding some_below
-loop-i-init c = refl
-
-pub returns-then-bears : goal.returns-then-bears
-returns-then-bears c = sym (some_below-in _ _ c.loop-i.i (search rules) (sym c.bears.ensures ∙ c.if-bears.true))
-
-pub loop-i-preserved : goal.loop-i-preserved
-loop-i-preserved c = some_below-more _ c.loop-i.i c.loop-i.invariant (sym c.bears.ensures ∙ c.if-bears.false)
+pub returns : goal.returns
+returns c =
+    let a = c.args in
+    any_from_yields_List (λ i. bears_at a.medium.now a.id (a.from + entry_words * i)) _ _ c.any.result c.any.ensures.ran (YieldsList-from_range 0 a.n a.n refl (omega arith)) (λ x b q k. search (rules, tests))
+    ∙ some-numbers _ a.n

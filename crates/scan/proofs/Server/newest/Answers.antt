@@ -1,27 +1,33 @@
--- `scan::Server::newest` meets its contract. The invariant: the highest live entry is one of those left.
-use Rattle.std.proofs.Common.{◌≡◌, ◌-◌, sym, ◌∙◌, arith, rules}
-use Rattle.lists.specs.Below.{highest}
+-- `scan::Server::newest` meets its contract: the first entry that bears the id from the highest of those left down.
+use Rattle.std.proofs.Common.{◌<◌, ◌∙◌, sym, arith, rules}
+use borrow.Author.Tests.{tests}
+use Rattle.std.proofs.lemmas.Iterator.Adapters.{serves_from_places, option_map_id}
+use Rattle.std.proofs.lemmas.Iterator.Search.{find_from_yields_List}
+use Rattle.medium.specs.Entry.{entry_at, bears_at}
+use Rattle.lists.proofs.Below.{highest-cong}
+use Rattle.medium.proofs.Entries.{live_below}
 use Rattle.medium.proofs.Places.{entry-inside}
-use Rattle.scan.proofs.Passing.{highest-entry}
+use Rattle.scan.proofs.Down.{YieldsList-from_rev_range, length-downs, downs-below, find-downs}
 use Rattle.scan.proofs.Server.newest.Goals as goal
 
-pub bears-requires : goal.bears-requires
-bears-requires c =
+pub find-requires-clause-callable : goal.find-requires-clause-callable
+find-requires-clause-callable c =
     let a = c.args.self.now in
-    omega (arith, c.entry_at-at.ensures, entry-inside a.capacity a.number (c.loop-j.j - 1) 2 a.medium.now a.inside (omega (arith, a.few)) (omega arith))
-
-pub returns-then-bears : goal.returns-then-bears
-returns-then-bears c =
-    let a = c.args.self.now in
-    sym (c.loop-j.invariant ∙ highest-entry a.capacity a.used a.medium.now c.args.id a.number c.loop-j.j (search rules) (search rules) c.entry_at-at.ensures (sym c.if-bears.true ∙ c.bears.ensures))
-
-pub loop-j-preserved : goal.loop-j-preserved
-loop-j-preserved c =
-    let a = c.args.self.now in
-    c.loop-j.invariant ∙ highest-entry a.capacity a.used a.medium.now c.args.id a.number c.loop-j.j (search rules) (search rules) c.entry_at-at.ensures (sym c.if-bears.false ∙ c.bears.ensures)
+    serves_from_places (YieldsList-from_rev_range c.left-entries.result c.rev.ensures.source) (λ x q k. search (rules, tests))
+    (λ x k l e.
+    let below : x < c.left-entries.result = omega (arith, e, downs-below c.left-entries.result k x (omega (arith, length-downs 0 c.left-entries.result))) in
+    let inside = entry-inside a.capacity a.number x 2 a.medium.now a.inside (omega (arith, c.left-entries.ensures.few, a.few)) (omega arith) in
+    let few = c.left-entries.ensures.few in
+    let high = a.few in
+    let small = a.inside.small in
+    let there = a.inside.few in
+    search rules)
 
 pub returns : goal.returns
-unfolding highest
 returns c =
-    let none : c.loop-j.j ≡ 0 = omega arith in
-    sym (rw none at c.loop-j.invariant)
+    let a = c.args.self.now in
+    sym (option_map_id c.find.result)
+    ∙ find_from_yields_List (λ j. bears_at a.medium.now c.args.id (entry_at a.capacity a.number j)) _ _ c.find.result c.find.ensures.ran (YieldsList-from_rev_range c.left-entries.result c.rev.ensures.source) (λ x b q k. search (rules, tests))
+    ∙ find-downs _ c.left-entries.result
+    ∙ highest-cong _ _ c.left-entries.result (λ j l. sym (live_below a.capacity a.used a.medium.now c.args.id a.number j (omega (arith, c.left-entries.ensures.few))))
+    ∙ sym c.left-entries.ensures.same
