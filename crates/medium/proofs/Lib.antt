@@ -2,3 +2,4 @@ pub mod Places
 pub mod Entries
 pub mod Burns
 pub mod Marks
+pub mod Down

@@ -1,8 +1,8 @@
 -- What recover leaves: a server's used by the words, and a table with another used for each server.
 -- Assumes nothing.
 use Prim.Native.Nat.{ℕ, zero, suc, ◌+◌, ◌-◌, ◌≤◌, ◌<◌}
-use mathlib.Core.Path.{◌≡◌, refl, sym, ap, ◌∙◌}
-use mathlib.Core.Bool.{Bool, true, false, cond, not}
+use mathlib.Core.Path.{◌≡◌, refl, sym, ap, ◌∙◌, subst}
+use mathlib.Core.Bool.{Bool, true, false, not}
 use mathlib.Core.List.{List, [], ◌∷◌, ◌++◌}
 use native.Mathlib.Numerals.{sub-one}
 use native.Mathlib.Omega.{arith}
@@ -11,11 +11,13 @@ use lib.Dec.{eqb, ltb}
 use lib.Seq.{ext_get_or, take_all}
 use borrow.Author.Tests.{eqb-true, eqb-false, ltb-true, ltb-false, not-false}
 use Rattle.std.proofs.lemmas.List.{length-take-le}
-use Rattle.lists.specs.Below.{nth, set_below}
+use Rattle.std.specs.Option.{MatchOption}
+use Rattle.std.proofs.Common.{Option, Some}
+use Rattle.lists.specs.Below.{nth, highest, set_below}
 use Rattle.lists.proofs.Tests.{by_bool}
 use Rattle.lists.proofs.Below.{length-set_below, set_below-at, set_below-above, set_below-cong}
 use Rattle.lists.proofs.Listed.{set_below-take}
-use Rattle.medium.specs.Entry.{entry_words, server_at, entry_at, blank_run}
+use Rattle.medium.specs.Entry.{server_at}
 use Rattle.table.specs.declared.Table.{Table}
 use Rattle.table.specs.Parts.{shape_of, table_by, used_of}
 use Rattle.table.specs.Sound.{sound}
@@ -49,12 +51,6 @@ pub past_last-cong : (p q : ℕ → Bool) (n : ℕ) → ((k : ℕ) → k < n →
 unfolding past_last
 past_last-cong p q zero h = refl
 past_last-cong p q (suc n) h = rw (h n (omega arith), past_last-cong p q n (λ k l. h k (omega arith)))
-
--- one number less, as a loop that goes down
-pub past_last-last : (p : ℕ → Bool) (n : ℕ) (b : Bool) → 0 < n → p (n - 1) ≡ b → past_last p n ≡ cond b n (past_last p (n - 1))
-unfolding past_last
-past_last-last p zero b l e = absurd (omega arith)
-past_last-last p (suc n) b l e = let d : p n ≡ b = rw sub-one at e in rw (sub-one, d)
 
 -- a server's used by the words
 
@@ -114,17 +110,18 @@ with_used-same t f a few h =
     ap (λ (used : List ℕ). table_by (shape_of t) t.weights used t.numerators t.denominators t.counters)
     (set_below-same f t.count t.used (omega (arith, a.used)) h)
 
--- the loop over the entries of a server, from the highest down: what it finds is the server's used, if it was among the first n
-module _ (capacity : ℕ) (m : List ℕ) (k n : ℕ) (l : 0 < n) (left : used_on capacity m k ≡ past_last (touched capacity m k) n) where
-  pub used_next : (at : ℕ) (b : Bool) → at ≡ entry_at capacity k (n - 1) → b ≡ blank_run m at entry_words → used_on capacity m k ≡ cond b (past_last (touched capacity m k) (n - 1)) (n - 1 + 1)
-  unfolding touched
-  used_next at true e f = left ∙ past_last-last (touched capacity m k) n false l (rw (← e, ← f))
-  used_next at false e f = omega (arith, left ∙ past_last-last (touched capacity m k) n true l (rw (← e, ← f)))
-
--- nothing is left
-pub used_none : (capacity : ℕ) (m : List ℕ) (k n : ℕ) → n ≡ 0 → used_on capacity m k ≡ past_last (touched capacity m k) n → 0 ≡ used_on capacity m k
-unfolding past_last
-used_none capacity m k n z left = sym (left ∙ ap (past_last (touched capacity m k)) z)
+-- by the highest entry that has a word which is not blank
+pub past_last-found : (p : ℕ → Bool) (n : ℕ) (o : Option ℕ) (r : ℕ) {P : ℕ → Type 0} → o ≡ highest p n → MatchOption o (r ≡ 0) P → ((j : ℕ) → P j → r ≡ j + 1) → r ≡ past_last p n
+unfolding past_last highest
+past_last-found p zero o r {P} e m next = subst (λ (x : Option ℕ). MatchOption x (r ≡ 0) P) e m
+past_last-found p (suc n) o r {P} e m next = by_bool (p n)
+    (λ d.
+    let top : o ≡ Some n = rw d at e in
+    let here : r ≡ n + 1 = next n (subst (λ (x : Option ℕ). MatchOption x (r ≡ 0) P) top m) in
+    rw d (omega arith))
+    (λ d.
+    let below : o ≡ highest p n = rw d at e in
+    rw d (past_last-found p n o r below m next))
 
 -- where recover is accepted, the table is sound and the medium has the words of its servers
 pub record Recoverable (t : Table) (m : List ℕ) : Type 0 where

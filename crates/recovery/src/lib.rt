@@ -15,18 +15,14 @@ use replies::Refusal;
 use table::{Table, View};
 
 // One past the last entry of a server that has a word which is not blank, or 0.
-#[tactic(auto, using(crate::proofs::Recovering::used_none), unfolding(crate::specs::Recovery::used_on))]
 pub fn used_on(medium: &[u32], capacity: usize, server: usize) -> usize
     requires { Inside capacity server medium.now }
     ensures { result ≡ used_on capacity medium.now server }
 {
-    for j in (0..capacity).rev() {
-        let at = medium::entry_at(capacity, server, j);
-        if !medium::is_blank(medium, at, ENTRY_WORDS) {
-            return j + 1;
-        }
-    }
-    0
+    (0..capacity)
+        .rev()
+        .find(|&j| !medium::is_blank(medium, medium::entry_at(capacity, server, j), ENTRY_WORDS))
+        .map_or(0, |j| j + 1)
 }
 
 // Stores that number for each server in the column of the entries used. The count stands beside the column: a part of the column that

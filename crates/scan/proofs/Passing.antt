@@ -2,10 +2,9 @@
 -- The laws are over any number of entries in a block. Assumes nothing.
 use Prim.Native.Nat.{ℕ, ◌+◌, ◌-◌, ◌*◌, ◌≤◌, ◌<◌}
 use mathlib.Core.Path.{◌≡◌, refl, sym, ap, ◌∙◌}
-use mathlib.Core.Bool.{Bool, false, cond, ◌||◌}
+use mathlib.Core.Bool.{Bool, false, ◌||◌}
 use mathlib.Core.List.{List}
 use native.Mathlib.Omega.{arith}
-use Rattle.std.proofs.Common.{Some}
 use lib.Dec.{eqb}
 use lib.ListN.{length, get_or, take, drop}
 use Rattle.std.proofs.Math.Bool.{or_comm}
@@ -13,7 +12,7 @@ use Rattle.std.specs.List.{list_any, range_with_len}
 use Rattle.std.proofs.lemmas.List.{take_all}
 use Rattle.std.proofs.lemmas.List.FromFn.{length-range_with_len, get_or-range_with_len}
 use Rattle.lists.specs.Below.{nth, some_below, highest}
-use Rattle.lists.proofs.Below.{some_below-out, some_below-next, some_below-cong, highest-last, highest-below}
+use Rattle.lists.proofs.Below.{some_below-out, some_below-next, some_below-cong, highest-below}
 use Rattle.lists.proofs.Listed.{some_below-take}
 use Rattle.medium.specs.Word.{id_word}
 use Rattle.medium.specs.Entry.{entry_words, entry_at, bears_at, live, Inside}
@@ -71,9 +70,3 @@ module _ (capacity used : ℕ) (m : List ℕ) (id k d low : ℕ) (below : low + 
 
   pub passed-by-entries : bears_some m id from d ≡ false → highest (live capacity used m id k) (low + d) ≡ highest (live capacity used m id k) low
   passed-by-entries e = block-passed (λ i l. some_below-out (λ i. bears_at m id (from + entry_words * i)) d e i l)
-
--- the highest entry of those left is the highest live one, or else it is below
-pub highest-entry : (capacity used : ℕ) (m : List ℕ) (id k j : ℕ) {at : ℕ} {borne : Bool} → 0 < j → j ≤ used → at ≡ entry_at capacity k (j - 1) → borne ≡ bears_at m id at
-    → highest (live capacity used m id k) j ≡ cond borne (Some (j - 1)) (highest (live capacity used m id k) (j - 1))
-highest-entry capacity used m id k j l below place test =
-    highest-last (live capacity used m id k) j _ l (live_below capacity used m id k (j - 1) (omega arith) ∙ ap (bears_at m id) (sym place) ∙ sym test)

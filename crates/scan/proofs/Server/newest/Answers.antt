@@ -7,7 +7,7 @@ use Rattle.medium.specs.Entry.{entry_at, bears_at}
 use Rattle.lists.proofs.Below.{highest-cong}
 use Rattle.medium.proofs.Entries.{live_below}
 use Rattle.medium.proofs.Places.{entry-inside}
-use Rattle.scan.proofs.Down.{YieldsList-from_rev_range, length-downs, downs-below, find-downs}
+use Rattle.medium.proofs.Down.{YieldsList-from_rev_range, length-downs, downs-below, find-downs}
 use Rattle.scan.proofs.Server.newest.Goals as goal
 
 pub find-requires-clause-callable : goal.find-requires-clause-callable
