@@ -1,6 +1,6 @@
 -- What a batch of lookups ensures, by whether the runs are long enough and by whether the list is refused.
 -- Assumes nothing.
-use Prim.Native.Nat.{ℕ, zero, suc, ◌*◌, ◌/◌, ◌≤◌, ◌<◌}
+use Prim.Native.Nat.{ℕ, zero, suc, ◌*◌, ◌≤◌, ◌<◌}
 use mathlib.Core.Path.{◌≡◌, refl, sym, ap, ap₂, ◌∙◌}
 use mathlib.Core.Bool.{Bool, true, false, not, ◌&&◌}
 use mathlib.Core.List.{List}
@@ -39,41 +39,36 @@ use Rattle.encoding.specs.Encoding.{reply_length, too_short, with_reply}
 use Rattle.replay.specs.Replay.{with_replies}
 use Rattle.batch_words.specs.BatchWords.{fits_batch, batch_stored, after_batch, lookup_part}
 
--- whether the runs are long enough, test by test
+-- whether the runs are long enough, by the length of the table and by the test of the others
 module _ (n : ℕ) (table replies order mounts : List ℕ) where
+  abbrev pub Others : Bool → Type 0
+  Others b = (leb (reply_length * n) (length replies) && (leb n (length order) && leb 1 (length mounts))) ≡ b
+
   pub no_table : length table < table_length → false ≡ fits_batch n table replies order mounts
   unfolding fits_batch
   no_table l = rw (lt-leb _ _ l)
 
-  pub no-replies : table_length ≤ length table → length replies / reply_length < n → false ≡ fits_batch n table replies order mounts
+  pub no_room : Others false → false ≡ fits_batch n table replies order mounts
   unfolding fits_batch
-  no-replies a l = let h : length replies < reply_length * n = omega arith in rw (le-leb _ _ a, lt-leb _ _ h)
+  no_room e = rw e (by_bool (leb table_length (length table)) (λ y. rw y) (λ z. rw z))
 
-  pub no-order : table_length ≤ length table → n ≤ length replies / reply_length → length order < n → false ≡ fits_batch n table replies order mounts
+  pub room : table_length ≤ length table → Others true → true ≡ fits_batch n table replies order mounts
   unfolding fits_batch
-  no-order a b l = let h : reply_length * n ≤ length replies = omega arith in rw (le-leb _ _ a, le-leb _ _ h, lt-leb _ _ l)
+  room l e = rw (le-leb _ _ l, e)
 
-  pub by-mounts : (b : Bool) → table_length ≤ length table → n ≤ length replies / reply_length → n ≤ length order → b ≡ leb 1 (length mounts) → b ≡ fits_batch n table replies order mounts
-  unfolding fits_batch
-  by-mounts x a b d e = let h : reply_length * n ≤ length replies = omega arith in rw (le-leb _ _ a, le-leb _ _ h, le-leb _ _ d) e
-
-  -- what follows where they are
+  -- what follows where the others are
   pub record Fits : Type 0 where
-    pub has_table : table_length ≤ length table
     pub has_replies : reply_length * n ≤ length replies
     pub has_order : n ≤ length order
     pub has_mounts : 1 ≤ length mounts
 
-  pub long-runs : fits_batch n table replies order mounts ≡ true → Fits
-  unfolding fits_batch
+  pub long-runs : Others true → Fits
   long-runs e =
-      let two = and_r (leb table_length (length table)) _ e in
-      let three = and_r (leb (reply_length * n) (length replies)) _ two in
+      let two = and_r (leb (reply_length * n) (length replies)) _ e in
       record {
-        has_table = leb-true _ _ (and_l (leb table_length (length table)) _ e);
-        has_replies = leb-true _ _ (and_l (leb (reply_length * n) (length replies)) _ two);
-        has_order = leb-true _ _ (and_l (leb n (length order)) _ three);
-        has_mounts = leb-true _ _ (and_r (leb n (length order)) _ three);
+        has_replies = leb-true _ _ (and_l (leb (reply_length * n) (length replies)) _ e);
+        has_order = leb-true _ _ (and_l (leb n (length order)) _ two);
+        has_mounts = leb-true _ _ (and_r (leb n (length order)) _ two);
       }
 
 -- the answer to a list that is not refused

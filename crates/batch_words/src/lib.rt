@@ -1,26 +1,22 @@
 // A batch of lookups on a table lent as words, its answer stored as words.
 #![tactic(auto)]
 
-ghost use Rattle.std.specs.Prelude.{◌≡◌, ℕ, ◌≤◌, ◌<◌, ◌*◌, length};
+ghost use Rattle.std.specs.Prelude.{◌≡◌, ℕ, ◌&&◌, ◌≤◌, ◌<◌, ◌*◌, length, leb};
 ghost use Rattle.lists.specs.Below.{nth, set_below};
 ghost use Rattle.batch_answer.specs.Answer.{opened_of};
 ghost use Rattle.encoding.specs.Encoding.{reply_length};
 ghost use Rattle.replay.specs.Replay.{with_replies};
-ghost use Rattle.batch_words.specs.BatchWords.{lookup_part, fits_batch, after_batch};
+ghost use Rattle.batch_words.specs.BatchWords.{lookup_part, after_batch};
 
 use encoding::REPLY_LENGTH;
 use replies::LookupAnswer;
-use table_words::TABLE_LENGTH;
 
-// Whether the runs are long enough for a batch of `n` ids.
-#[tactic(auto, unfolding(crate::specs::BatchWords::fits_batch))]
-fn fits(table: &[u32], n: usize, replies: &[u32], order: &[u32], mounts: &[u32]) -> bool
-    ensures { result ≡ fits_batch n table.now replies.now order.now mounts.now }
+// Whether the runs besides the table are long enough for a batch of `n` ids.
+fn fits(n: usize, replies: &[u32], order: &[u32], mounts: &[u32]) -> bool
+    ensures { result
+        ≡ (leb (reply_length * n) (length replies.now) && (leb n (length order.now) && leb 1 (length mounts.now))) }
 {
-    TABLE_LENGTH <= table.len()
-        && n <= replies.len() / REPLY_LENGTH
-        && n <= order.len()
-        && 1 <= mounts.len()
+    n <= replies.len() / REPLY_LENGTH && n <= order.len() && 1 <= mounts.len()
 }
 
 // Stores the reply to each id.
@@ -69,16 +65,19 @@ pub fn lookup_batch(
         ≡ (after_batch table.old medium.now tenant ids.now replies.old order.old
         mounts.old).mounts }
 {
-    if !fits(table, ids.len(), replies, order, mounts) {
+    if !fits(ids.len(), replies, order, mounts) {
         return encoding::TOO_SHORT;
     }
-    match &batch::lookup_batch_in(&table_words::view_of(table), medium, tenant, ids) {
+    let Some(words) = table.first_chunk_mut() else {
+        return encoding::TOO_SHORT;
+    };
+    match batch::lookup_batch_in(&table_words::view_of(words), medium, tenant, ids) {
         Err(refusal) => refusal.number(),
-        Ok(batch) => {
+        Ok(ref batch) => {
             store_replies(&batch.answers[..ids.len()], replies);
             store_front(&batch.order[..ids.len()], order);
             mounts[0] = batch.mounts as u32;
-            call_words::count_opened(table, tenant, batch_answer::sum(&batch.answers));
+            call_words::count_opened(words, tenant, batch_answer::sum(&batch.answers));
             0
         }
     }

@@ -2,31 +2,32 @@
 -- Assumes nothing.
 use Prim.Native.Nat.{ℕ, ◌≤◌, ◌<◌}
 use mathlib.Core.Path.{◌≡◌, refl, ap, ap₂, ◌∙◌}
-use mathlib.Core.Bool.{true, false}
+use mathlib.Core.Bool.{true, false, ◌&&◌}
 use mathlib.Core.List.{List, ◌++◌}
+use Rattle.std.specs.Array.{IsFirstChunk}
 use Rattle.std.specs.Prelude.{Option, Some}
 use native.Mathlib.Omega.{arith}
 use lib.ListN.{length, take, drop, length-set}
-use lib.Dec.{eqb}
-use borrow.Author.Tests.{leb-true}
+use lib.Dec.{eqb, leb}
+use borrow.Author.Tests.{le-leb, lt-leb, leb-true}
 use Rattle.lists.specs.Below.{nth}
 use Rattle.lists.proofs.Tests.{by_bool, and_l, and_r}
 use Rattle.table.specs.declared.Table.{Table}
 use Rattle.table.specs.Parts.{with_counters}
 use Rattle.table.proofs.Soundness.{Arrays}
 use Rattle.table_words.specs.Words.{used_offset, counters_offset, table_length, column_from, counters_from, table_from, with_table}
-use Rattle.table_words.proofs.Lent.{length-column, lent-arrays, stored-lent}
+use Rattle.table_words.proofs.Lent.{length-column, lent-arrays, stored-lent, front-table, front-stored}
 use Rattle.upkeep.specs.Upkeep.{one_more}
 use Rattle.calls.specs.declared.Call.{Call}
 use Rattle.calls.specs.declared.Call.TheVariants.{AddServer, Reweight, Write, Delete, Lookup}
 use Rattle.calls.specs.Numbered.{on_servers, is_write}
 use Rattle.replies.specs.declared.Reply.{Reply}
 use Rattle.history.specs.Machine.{State}
-use Rattle.encoding.specs.Encoding.{call_length, reply_length}
+use Rattle.encoding.specs.Encoding.{call_length, reply_length, with_reply_at}
 use Rattle.dispatch.specs.OneCall.{reply_to, next_by, used_after, counters_after, with_used}
 use Rattle.dispatch.proofs.Calling.{counts, counted-table}
 use Rattle.call_words.proofs.Kept.{call-count, length-stored, stored-again}
-use Rattle.call_words.specs.CallWords.{lent, fits_call, with_column}
+use Rattle.call_words.specs.CallWords.{lent, fits_call, where_fits, with_column}
 use Rattle.call_words.proofs.Columns.{used-stored, counters-stored}
 
 pub count_fits : (S : State) (o : Option Call) (t : Table) → t ≡ (next_by S o).table → S.table.count < 4294967296 → t.count < 4294967296
@@ -81,8 +82,36 @@ module _ (words m : List ℕ) (c : Call) (l : table_length ≤ length words) (r 
       ∙ stored-again words entered _ l entered-arrays
       ∙ ap (with_table words) (counted-table (lent words m) c r o e)
 
--- runs that are long enough
-pub fits_lengths : (table call reply : List ℕ) → fits_call table call reply ≡ true → (table_length ≤ length table) × (call_length ≤ length call) × (reply_length ≤ length reply)
-unfolding fits_call
-fits_lengths table call reply e =
-    (leb-true table_length (length table) (search and_l), leb-true call_length (length call) (search (and_l, and_r)), leb-true reply_length (length reply) (search (and_l, and_r)))
+-- whether the runs are long enough, by the test of the call and its reply and by the length of the table
+module _ (table call reply : List ℕ) where
+  pub short_table : length table < table_length → fits_call table call reply ≡ false
+  unfolding fits_call
+  short_table l = rw (lt-leb _ _ l)
+
+  pub short_call : (leb call_length (length call) && leb reply_length (length reply)) ≡ false → fits_call table call reply ≡ false
+  unfolding fits_call
+  short_call e = rw e (by_bool (leb table_length (length table)) (λ y. rw y) (λ n. rw n))
+
+  pub all_fit : table_length ≤ length table → (leb call_length (length call) && leb reply_length (length reply)) ≡ true → fits_call table call reply ≡ true
+  unfolding fits_call
+  all_fit l e = rw (le-leb _ _ l) e
+
+pub call_lengths : (call reply : List ℕ) → (leb call_length (length call) && leb reply_length (length reply)) ≡ true → (call_length ≤ length call) × (reply_length ≤ length reply)
+call_lengths call reply e = (leb-true call_length (length call) (search and_l), leb-true reply_length (length reply) (search and_r))
+
+-- what a run answers, and leaves in the words in front and in the medium, said of the words that are lent
+abbrev pub Done : List ℕ → List ℕ → List ℕ → List ℕ → (State → Reply) → (State → State) → ℕ → List ℕ → List ℕ → List ℕ → Type 0
+Done table m call reply r next number table' m' reply' =
+    let S = lent table m in
+    let after = where_fits table m call reply (record { number = (r S).refusal; table = with_table table (next S).table; medium = (next S).medium; reply = with_reply_at reply 0 (r S) }) in
+    (number ≡ after.number) × ((table' ≡ after.table) × ((m' ≡ after.medium) × (reply' ≡ after.reply)))
+
+pub call_done : (table m call reply : List ℕ) (r : State → Reply) (next : State → State) → (leb call_length (length call) && leb reply_length (length reply)) ≡ true
+    → (front front' m' reply' : List ℕ) (told : Reply) → IsFirstChunk table front table_length
+    → told ≡ r (lent front m) → front' ≡ with_table front (next (lent front m)).table → m' ≡ (next (lent front m)).medium → reply' ≡ with_reply_at reply 0 told
+    → Done table m call reply r next told.refusal (front' ++ drop table_length table) m' reply'
+call_done table m call reply r next fit front front' m' reply' told is e t f g =
+    let same = front-table table front is in
+    let answered = rw same at e in
+    let stored = front-stored table front is (λ (u : Table). (next (record { table = u; medium = m })).table) front' t in
+    rw (all_fit table call reply is.enough fit) (ap (λ (x : Reply). x.refusal) answered, (stored, (rw same at f, g ∙ ap (with_reply_at reply 0) answered)))

@@ -1,25 +1,25 @@
 // One call on a table lent as words. Its columns are parts of the words, so that only add_server and reweight copy them.
 #![tactic(auto)]
 
-ghost use Rattle.std.specs.Prelude.{◌≡◌, true, ◌<◌, ◌≤◌, length};
+ghost use Rattle.std.specs.Prelude.{◌≡◌, true, ◌&&◌, ◌<◌, length, leb};
 ghost use Rattle.limits.specs.Limits.{max_servers, max_capacity};
 ghost use Rattle.lists.specs.Below.{nth};
-ghost use Rattle.table_words.specs.Words.{used_offset, table_length, column_from, table_from, with_table};
+ghost use Rattle.table_words.specs.Words.{used_offset, column_from, table_from, with_table};
 ghost use Rattle.upkeep.specs.Upkeep.{with_opened};
 ghost use Rattle.calls.specs.Numbered.{on_servers, is_write};
+ghost use Rattle.encoding.specs.Encoding.{call_length, reply_length};
 ghost use Rattle.dispatch.specs.OneCall.{reply_to, next_by, used_after};
-ghost use Rattle.call_words.specs.CallWords.{lent, fits_call, after_call, with_column};
+ghost use Rattle.call_words.specs.CallWords.{lent, after_call, with_column};
 
 use calls::Call;
 use draws::Steps;
 use encoding::{CALL_LENGTH, REPLY_LENGTH};
 use replies::Reply;
-use table_words::{COUNTERS_OFFSET, NUMERATORS_OFFSET, TABLE_LENGTH, USED_OFFSET};
+use table_words::{COUNTERS_OFFSET, NUMERATORS_OFFSET, TABLE_LENGTH, USED_OFFSET, Words};
 
 // Counts the entry of an accepted write as used on its server.
-pub fn count(words: &mut [u32], call: Call, reply: Reply)
-    requires table_length_in_bounds { table_length ≤ length words.old }
-    requires server_lt_max_servers { is_write call ≡ true → reply.refusal ≡ 0
+pub fn count(words: &mut Words, call: Call, reply: Reply)
+    requires { is_write call ≡ true → reply.refusal ≡ 0
         → (reply.server < max_servers) × (nth (column_from words.old used_offset) reply.server < max_capacity) }
     ensures { words.new ≡ with_column words.old used_offset (used_after (column_from words.old used_offset) call reply) }
 {
@@ -27,17 +27,15 @@ pub fn count(words: &mut [u32], call: Call, reply: Reply)
 }
 
 // Counts the servers that were opened for a tenant.
-pub fn count_opened(words: &mut [u32], tenant: u32, opened: usize)
-    requires { table_length ≤ length words.old }
+pub fn count_opened(words: &mut Words, tenant: u32, opened: usize)
     ensures { words.new ≡ with_table words.old (with_opened (table_from words.old) tenant opened) }
 {
     counters::count(&mut words[COUNTERS_OFFSET..TABLE_LENGTH], tenant, opened);
 }
 
 // Runs add_server or reweight on a copy of the table, and stores it back.
-fn run_change(call: Call, table: &mut [u32], medium: &[u32]) -> Reply
-    requires table_length_in_bounds { table_length ≤ length table.old }
-    requires changes { on_servers call ≡ true }
+fn run_change(call: Call, table: &mut Words, medium: &[u32]) -> Reply
+    requires { on_servers call ≡ true }
     ensures reply { result ≡ reply_to (lent table.old medium.now) (Some call) }
     ensures table { table.new ≡ with_table table.old (next_by (lent table.old medium.now) (Some call)).table }
     ensures medium { medium.now ≡ (next_by (lent table.old medium.now) (Some call)).medium }
@@ -49,8 +47,7 @@ fn run_change(call: Call, table: &mut [u32], medium: &[u32]) -> Reply
 }
 
 // Runs a call on a table lent as words; what is no call changes nothing.
-pub fn run(call: Option<Call>, table: &mut [u32], medium: &mut [u32], steps: &Steps) -> Reply
-    requires { table_length ≤ length table.old }
+pub fn run(call: Option<Call>, table: &mut Words, medium: &mut [u32], steps: &Steps) -> Reply
     ensures reply { result ≡ reply_to (lent table.old medium.old) call }
     ensures table { table.new ≡ with_table table.old (next_by (lent table.old medium.old) call).table }
     ensures medium { medium.new ≡ (next_by (lent table.old medium.old) call).medium }
@@ -67,26 +64,27 @@ pub fn run(call: Option<Call>, table: &mut [u32], medium: &mut [u32], steps: &St
     reply
 }
 
-// Whether the runs are long enough for a call.
-#[tactic(auto, unfolding(crate::specs::CallWords::fits_call))]
-pub fn fits(table: &[u32], call: &[u32], reply: &[u32]) -> bool
-    ensures { result ≡ fits_call table.now call.now reply.now }
+// Whether a call and its reply have all their words.
+pub fn fits(call: &[u32], reply: &[u32]) -> bool
+    ensures { result ≡ leb call_length (length call.now) && leb reply_length (length reply.now) }
 {
-    TABLE_LENGTH <= table.len() && CALL_LENGTH <= call.len() && REPLY_LENGTH <= reply.len()
+    CALL_LENGTH <= call.len() && REPLY_LENGTH <= reply.len()
 }
 
 // Runs the call at the front of its words, stores its reply and answers its refusal number.
-#[tactic(auto, using(dispatch::proofs::Calling::called_small, crate::proofs::Calling::fits_lengths), unfolding(crate::specs::CallWords::after_call, encoding::specs::Encoding::call_from))]
 pub fn call(table: &mut [u32], medium: &mut [u32], call: &[u32], reply: &mut [u32]) -> u32
     ensures number { result ≡ (after_call table.old medium.old call.now reply.old).number }
     ensures table { table.new ≡ (after_call table.old medium.old call.now reply.old).table }
     ensures medium { medium.new ≡ (after_call table.old medium.old call.now reply.old).medium }
     ensures reply { reply.new ≡ (after_call table.old medium.old call.now reply.old).reply }
 {
-    if !fits(table, call, reply) {
+    if !fits(call, reply) {
         return encoding::TOO_SHORT;
     }
-    let told = run(encoding::call_from(call, 0), table, medium, &Steps::new());
+    let Some(words) = table.first_chunk_mut() else {
+        return encoding::TOO_SHORT;
+    };
+    let told = run(encoding::call_from(call, 0), words, medium, &Steps::new());
     encoding::store(reply, 0, told);
     told.refusal
 }

@@ -36,22 +36,21 @@ pub extern "C" fn archive_table_words() -> usize
 }
 
 // Stores a table of no server, or of all zeros where the capacity or the salt is refused.
-#[tactic(auto, unfolding(crate::specs::Embed::start_number, table_words::specs::Words::with_table))]
 #[unsafe(no_mangle)]
 pub extern "C" fn archive_start(capacity: u32, salt: u32, table: &mut [u32]) -> u32
     ensures number { result ≡ start_number capacity salt table.old }
     ensures table { table.new ≡ with_table table.old (start_table capacity salt) }
 {
-    if table.len() < table_words::TABLE_LENGTH {
+    let Some(words) = table.first_chunk_mut() else {
         return encoding::TOO_SHORT;
-    }
+    };
     match servers::start(capacity, salt) {
         Ok(started) => {
-            table_words::store_table(table, &started);
+            table_words::store_table(words, &started);
             0
         }
         Err(refusal) => {
-            table_words::store_table(table, &table::empty(0, 0));
+            table_words::store_table(words, &table::empty(0, 0));
             refusal.number()
         }
     }

@@ -5,23 +5,21 @@ ghost use Rattle.std.specs.Prelude.{◌≡◌};
 ghost use Rattle.image_words.specs.ImageWords.{after_encode, decode_number, after_decode};
 
 use encoding::TOO_SHORT;
-use table_words::TABLE_LENGTH;
 
 // Writes the image of a table, and how many words it has.
-#[tactic(auto, unfolding(crate::specs::ImageWords::after_encode, crate::specs::ImageWords::fits_encode, crate::specs::ImageWords::with_size, image::specs::Encoding::reply_of_encode))]
 pub fn encode(table: &[u32], destination: &mut [u32], size: &mut [u32]) -> u32
     ensures number { result ≡ (after_encode table.now destination.old size.old).number }
     ensures destination { destination.new
         ≡ (after_encode table.now destination.old size.old).destination }
     ensures size { size.new ≡ (after_encode table.now destination.old size.old).size }
 {
-    if table.len() < TABLE_LENGTH {
+    let Some(words) = table.first_chunk() else {
         return TOO_SHORT;
-    }
+    };
     if size.len() < 1 {
         return TOO_SHORT;
     }
-    match image_writer::encode_in(&table_words::view_of(table), destination) {
+    match image_writer::encode_in(&table_words::view_of(words), destination) {
         Err(refusal) => refusal.number(),
         Ok(n) => {
             size[0] = n as u32;
@@ -31,16 +29,15 @@ pub fn encode(table: &[u32], destination: &mut [u32], size: &mut [u32]) -> u32
 }
 
 // Reads a table from its image, and stores it; where the words are refused, one of all zeros.
-#[tactic(auto, unfolding(crate::specs::ImageWords::decode_number, crate::specs::ImageWords::after_decode, table_words::specs::Words::with_table))]
 pub fn decode(image: &[u32], table: &mut [u32]) -> u32
     ensures number { result ≡ decode_number image.now table.old }
     ensures table { table.new ≡ after_decode image.now table.old }
 {
-    if table.len() < TABLE_LENGTH {
+    let Some(words) = table.first_chunk_mut() else {
         return TOO_SHORT;
-    }
+    };
     let mut read = table::empty(0, 0);
     let decoded = image_reader::decode_into(image, &mut read);
-    table_words::store_table(table, &read);
+    table_words::store_table(words, &read);
     replies::check_reply(&decoded).refusal
 }

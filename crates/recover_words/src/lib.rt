@@ -4,16 +4,14 @@
 ghost use Rattle.std.specs.Prelude.{◌≡◌, true, ◌≤◌, length};
 ghost use Rattle.medium.specs.Entry.{server_at};
 ghost use Rattle.table.specs.Sound.{sound};
-ghost use Rattle.table_words.specs.Words.{table_length, table_from, with_table};
+ghost use Rattle.table_words.specs.Words.{table_from, with_table};
 ghost use Rattle.recovery.specs.Recovery.{used_on, with_used};
 ghost use Rattle.recover_words.specs.RecoverWords.{recover_number, after_recover};
 
-use encoding::TOO_SHORT;
-use table_words::{NUMERATORS_OFFSET, TABLE_LENGTH, USED_OFFSET};
+use table_words::{NUMERATORS_OFFSET, USED_OFFSET, Words};
 
 // Stores the used of every server by the medium.
-fn recount(words: &mut [u32], medium: &[u32])
-    requires table_length_in_bounds { table_length ≤ length words.old }
+fn recount(words: &mut Words, medium: &[u32])
     requires words_value { sound (table_from words.old) ≡ true }
     requires words_in_bounds { server_at (table_from words.old).capacity (table_from words.old).count ≤ length medium.now }
     ensures { words.new
@@ -29,13 +27,13 @@ pub fn recover(table: &mut [u32], medium: &[u32]) -> u32
     ensures number { result ≡ recover_number table.old medium.now }
     ensures table { table.new ≡ after_recover table.old medium.now }
 {
-    if table.len() < TABLE_LENGTH {
-        return TOO_SHORT;
-    }
-    let check = recovery::check(&table_words::view_of(table), medium);
+    let Some(words) = table.first_chunk_mut() else {
+        return encoding::TOO_SHORT;
+    };
+    let check = recovery::check(&table_words::view_of(words), medium);
     if let Err(refusal) = check {
         return refusal.number();
     }
-    recount(table, medium);
+    recount(words, medium);
     0
 }

@@ -3,7 +3,7 @@
 #![tactic(auto)]
 
 ghost use Rattle.std.specs.Prelude.{◌≡◌, true, ◌≤◌, ◌*◌, length};
-ghost use Rattle.table_words.specs.Words.{table_length, with_table};
+ghost use Rattle.table_words.specs.Words.{with_table};
 ghost use Rattle.history.specs.Machine.{after, start_state};
 ghost use Rattle.encoding.specs.Encoding.{call_length, reply_length};
 ghost use Rattle.call_words.specs.CallWords.{lent};
@@ -12,20 +12,19 @@ ghost use Rattle.replay.specs.Lent.{resumes};
 
 use draws::Steps;
 use encoding::CALL_LENGTH;
-use table_words::TABLE_LENGTH;
+use table_words::{TABLE_LENGTH, Words};
 
 // Runs the first `n` encoded calls on a table lent as words. A call and its reply have as many words, so both begin at the same
 // word.
 fn run_calls(
-    table: &mut [u32],
+    table: &mut Words,
     steps: &Steps,
     calls: &[u32],
     medium: &mut [u32],
     replies: &mut [u32],
     n: usize,
 )
-    requires table_length_in_bounds { table_length ≤ length table.old }
-    requires n_in_bounds { (call_length * n ≤ length calls.now) × (reply_length * n ≤ length replies.old) }
+    requires { (call_length * n ≤ length calls.now) × (reply_length * n ≤ length replies.old) }
     ensures table { table.new
         ≡ with_table table.old (after (lent table.old medium.old) (calls_below calls.now n)).table }
     ensures words { medium.new ≡ (after (lent table.old medium.old) (calls_below calls.now n)).medium }
@@ -38,13 +37,6 @@ fn run_calls(
         let reply = call_words::run(call, table, medium, steps);
         encoding::store(replies, at, reply);
     }
-}
-
-// The words of a table that is to be started, all zeros.
-fn zero_words() -> [u32; TABLE_LENGTH]
-    ensures { table_length ≡ length result }
-{
-    [0; TABLE_LENGTH]
 }
 
 // Runs as many of the encoded calls as both slices have room for on a started table, and answers their number.
@@ -65,7 +57,7 @@ pub fn replay(
         return 0;
     };
     let n = encoding::room(calls.len(), replies.len());
-    let mut words = zero_words();
+    let mut words: Words = [0; TABLE_LENGTH];
     table_words::store_table(&mut words, &started);
     run_calls(&mut words, &Steps::new(), calls, medium, replies, n);
     n
@@ -80,10 +72,10 @@ pub fn resume(table: &mut [u32], calls: &[u32], medium: &mut [u32], replies: &mu
     ensures replies { replies.new
         ≡ with_replies (reply_at (lent table.old medium.old) calls.now) result replies.old }
 {
-    if table.len() < TABLE_LENGTH {
+    let Some(words) = table.first_chunk_mut() else {
         return 0;
-    }
+    };
     let n = encoding::room(calls.len(), replies.len());
-    run_calls(table, &Steps::new(), calls, medium, replies, n);
+    run_calls(words, &Steps::new(), calls, medium, replies, n);
     n
 }

@@ -4,8 +4,11 @@ use Prim.Native.Nat.{ℕ, ◌+◌, ◌≤◌}
 use mathlib.Core.Path.{◌≡◌, refl, sym, ap, ◌∙◌}
 use mathlib.Core.List.{List, [], ◌∷◌, ◌++◌, append_assoc}
 use native.Mathlib.Omega.{arith}
-use lib.ListN.{length, drop, set, length-append, length-take, length-drop}
-use lib.Seq.{take_all, take_at, drop-append-add, drop-drop, sets-eq, paste}
+use lib.ListN.{length, take, drop, set, length-append, length-take, length-drop, take-append-drop}
+use lib.Seq.{take_all, take_at, take-take, get_or-take, drop-append-add, drop-drop, sets-eq, paste}
+use Rattle.std.proofs.lemmas.List.{append-nil, length-take-le, drop-take, drop_all}
+use Rattle.std.specs.Array.{IsFirstChunk}
+use Rattle.table.specs.Parts.{table_by}
 use borrow.Author.Tests.{le-ltb}
 use Rattle.table.specs.declared.Table.{Table}
 use Rattle.table.proofs.Soundness.{Arrays}
@@ -89,3 +92,37 @@ stored-lent words t l a =
       take_at t.denominators r₄ 256 a.denominators,
       take_at t.counters (drop table_length words) 8 a.counters,
     ))
+
+-- a run of words and its front, which has the words of a table
+array-front : (words : List ℕ) (at n k : ℕ) → n ≤ k → take n (drop at (take (at + k) words)) ≡ take n (drop at words)
+array-front words at n k l = ap (take n) (drop-take at k words) ∙ take-take n k (drop at words) l
+
+module _ (words front : List ℕ) (is : IsFirstChunk words front table_length) where
+  -- the table is lent in the front
+  pub front-table : table_from front ≡ table_from words
+  unfolding table_from
+  front-table =
+      let capacity = get_or-take table_length words capacity_offset 0 (omega arith) in
+      let salt = get_or-take table_length words salt_offset 0 (omega arith) in
+      let count = get_or-take table_length words count_offset 0 (omega arith) in
+      let weights = array-front words weights_offset 256 1032 (omega arith) in
+      let used = array-front words used_offset 256 776 (omega arith) in
+      let numerators = array-front words numerators_offset 256 520 (omega arith) in
+      let denominators = array-front words denominators_offset 256 264 (omega arith) in
+      let counters = array-front words counters_offset 8 8 (omega arith) in
+      ap table_from is.same
+      ∙ (λ i. table_by (record { capacity = capacity i; salt = salt i; count = count i }) (weights i) (used i) (numerators i) (denominators i) (counters i))
+
+  -- what stays there stays in the words
+  pub front-kept : front ++ drop table_length words ≡ words
+  front-kept = ap (λ (w : List ℕ). w ++ drop table_length words) is.same ∙ take-append-drop table_length words
+
+  -- and what is stored there is stored in the words
+  pub front-stored : (f : Table → Table) (front' : List ℕ) → front' ≡ with_table front (f (table_from front))
+      → front' ++ drop table_length words ≡ with_table words (f (table_from words))
+  unfolding with_table
+  front-stored f front' stored =
+      let long : length (take table_length words) ≡ table_length = length-take-le table_length words is.enough in
+      let whole : table_length ≤ length (take table_length words) = omega (arith, long) in
+      let none : drop table_length (take table_length words) ≡ [] = drop_all table_length (take table_length words) (omega (arith, long)) in
+      rw (stored, front-table, is.same, le-ltb _ _ is.enough, le-ltb _ _ whole, none, append-nil (words_of (f (table_from words)))) refl

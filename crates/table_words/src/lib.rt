@@ -11,6 +11,9 @@ use table::{Shape, Table, View};
 // How many words a table has, where each of its numbers stands and where each of its columns and its counters begin.
 pub const TABLE_LENGTH: usize = 1035;
 
+// The words of a table.
+pub type Words = [u32; TABLE_LENGTH];
+
 pub const CAPACITY_OFFSET: usize = 0;
 
 pub const SALT_OFFSET: usize = 1;
@@ -36,8 +39,7 @@ fn array_in<const N: usize>(words: &[u32], from: usize) -> &[u32; N]
 }
 
 // The shape of a table lent as words.
-pub fn shape_of(words: &[u32]) -> Shape
-    requires { table_length ≤ length words.now }
+pub fn shape_of(words: &Words) -> Shape
     ensures { result ≡ shape_from words.now }
 {
     Shape {
@@ -48,8 +50,7 @@ pub fn shape_of(words: &[u32]) -> Shape
 }
 
 // The table lent as words, read where it lies.
-pub fn view_of(words: &[u32]) -> View<'_>
-    requires { table_length ≤ length words.now }
+pub fn view_of(words: &Words) -> View<'_>
     ensures table { table_of result ≡ table_from words.now }
     ensures count { result.shape.count < 4294967296 }
 {
@@ -72,9 +73,8 @@ fn store_array(words: &mut [u32], from: usize, array: &[u32])
 }
 
 // Stores a table as words.
-pub fn store_table(words: &mut [u32], table: &Table)
-    requires table_length_in_bounds { table_length ≤ length words.old }
-    requires count_bound { table.now.count < 4294967296 }
+pub fn store_table(words: &mut Words, table: &Table)
+    requires { table.now.count < 4294967296 }
     ensures { words.new ≡ with_table words.old table.now }
 {
     words[CAPACITY_OFFSET] = table.capacity;

@@ -1,4 +1,5 @@
 -- `batch_words::lookup_batch` meets its contract: by whether the runs are long enough, then by whether the list is refused.
+use mathlib.Core.Bool.{true, false}
 use mathlib.Core.Path.{◌≡◌, refl, sym, ap, ◌∙◌}
 use native.Mathlib.Omega.{arith}
 use lib.ListN.{length}
@@ -6,54 +7,58 @@ use Rattle.std.proofs.lemmas.List.{length-take-le}
 use borrow.Author.Rules.{rules}
 use Rattle.table.specs.declared.Table.{Table}
 use Rattle.table_words.specs.Words.{table_from}
+use Rattle.table_words.proofs.Lent.{front-table, front-kept, front-stored}
+use Rattle.upkeep.specs.Upkeep.{with_opened}
 use Rattle.batch.proofs.Counting.{answered-small}
-use Rattle.batch_words.proofs.Storing.{long-runs, few-ids, length-front, opened-small, mounts-small, batch-short, batch-refused, batch-done}
+use Rattle.batch_words.proofs.Storing.{no_table, no_room, room, long-runs, few-ids, length-front, opened-small, mounts-small, batch-short, batch-refused, batch-done}
 use Rattle.batch_words.proofs.lookup_batch.Goals as goal
 
 pub returns-then-not-fits : goal.returns-then-not-fits
 returns-then-not-fits c =
     let a = c.args in
-    let b = batch-short a.table.now a.medium.now a.tenant a.ids.now a.replies.now a.order.now a.mounts.now _ c.fits.ensures c.if-not-fits.true in
+    let b = batch-short a.table.now a.medium.now a.tenant a.ids.now a.replies.now a.order.now a.mounts.now false (no_room _ a.table.now a.replies.now a.order.now a.mounts.now (sym c.fits.ensures ∙ c.if-not-fits.true)) refl in
     record { number = b.0; table = b.1.0; replies = b.1.1.0; order = b.1.1.1.0; mounts = b.1.1.1.1 }
 
-pub view_of-requires : goal.view_of-requires
-view_of-requires c = (long-runs _ c.args.table.now c.args.replies.now c.args.order.now c.args.mounts.now (sym c.fits.ensures ∙ c.if-not-fits.false)).has_table
+pub returns-in_default : goal.returns-in_default
+returns-in_default c =
+    let a = c.args in
+    let b = batch-short a.table.now a.medium.now a.tenant a.ids.now a.replies.now a.order.now a.mounts.now false (no_table _ a.table.now a.replies.now a.order.now a.mounts.now c.in_default.ensures.cases) refl in
+    record { number = b.0; table = b.1.0; replies = b.1.1.0; order = b.1.1.1.0; mounts = b.1.1.1.1 }
 
 pub returns-in-Err : goal.returns-in-Err
 returns-in-Err c =
     let a = c.args in
-    let b = batch-refused a.table.now a.medium.now a.tenant a.ids.now a.replies.now a.order.now a.mounts.now _ c.fits.ensures c.if-not-fits.false _ (rw c.view_of.ensures.table at c.lookup_batch_in.ensures) c.in-Err.is in
-    record { number = c.number.ensures ∙ b.0; table = b.1.0; replies = b.1.1.0; order = b.1.1.1.0; mounts = b.1.1.1.1 }
+    let front = c.in-Some.ensures.cases in
+    let fit = room _ a.table.now a.replies.now a.order.now a.mounts.now front.enough (sym c.fits.ensures ∙ c.if-not-fits.false) in
+    let b = batch-refused a.table.now a.medium.now a.tenant a.ids.now a.replies.now a.order.now a.mounts.now true fit refl _ (rw (c.view_of.ensures.table, front-table a.table.now c.in-Some.words.now front) at c.lookup_batch_in.ensures) c.in-Err.is in
+    record { number = c.number.ensures ∙ b.0; table = front-kept a.table.now c.in-Some.words.now front ∙ b.1.0; replies = b.1.1.0; order = b.1.1.1.0; mounts = b.1.1.1.1 }
 
 pub store_replies-requires : goal.store_replies-requires
 store_replies-requires c =
     let runs = long-runs _ c.args.table.now c.args.replies.now c.args.order.now c.args.mounts.now (sym c.fits.ensures ∙ c.if-not-fits.false) in
     let t = table_from c.args.table.now in
-    let is = rw c.view_of.ensures.table at c.lookup_batch_in.ensures in
+    let is = rw (c.view_of.ensures.table, front-table c.args.table.now c.in-Some.words.now c.in-Some.ensures.cases) at c.lookup_batch_in.ensures in
     record {
       answers_in_bounds = rw (length-front t c.args.medium.now c.args.tenant _ is c.in-Ok.is (search rules)) runs.has_replies;
       by_index = opened-small t c.args.medium.now c.args.tenant _ is c.in-Ok.is (search rules);
     }
 
 pub shared_ref_as_front-store_replies : goal.shared_ref_as_front-store_replies
-shared_ref_as_front-store_replies c = few-ids (table_from c.args.table.now) c.args.medium.now c.args.tenant _ (rw c.view_of.ensures.table at c.lookup_batch_in.ensures) c.in-Ok.is
+shared_ref_as_front-store_replies c = few-ids (table_from c.args.table.now) c.args.medium.now c.args.tenant _ (rw (c.view_of.ensures.table, front-table c.args.table.now c.in-Some.words.now c.in-Some.ensures.cases) at c.lookup_batch_in.ensures) c.in-Ok.is
 
 pub sum-requires : goal.sum-requires
-sum-requires c = answered-small _ _ _ _ (rw c.view_of.ensures.table at c.lookup_batch_in.ensures) c.in-Ok.is
+sum-requires c = answered-small _ _ _ _ (rw (c.view_of.ensures.table, front-table c.args.table.now c.in-Some.words.now c.in-Some.ensures.cases) at c.lookup_batch_in.ensures) c.in-Ok.is
 
 pub store_front-requires : goal.store_front-requires
 store_front-requires c =
     let runs = long-runs _ c.args.table.now c.args.replies.now c.args.order.now c.args.mounts.now (sym c.fits.ensures ∙ c.if-not-fits.false) in
-    let few = few-ids (table_from c.args.table.now) c.args.medium.now c.args.tenant _ (rw c.view_of.ensures.table at c.lookup_batch_in.ensures) c.in-Ok.is in
+    let few = few-ids (table_from c.args.table.now) c.args.medium.now c.args.tenant _ (rw (c.view_of.ensures.table, front-table c.args.table.now c.in-Some.words.now c.in-Some.ensures.cases) at c.lookup_batch_in.ensures) c.in-Ok.is in
     let wide : length c.in-Ok.batch.order ≡ 256 = search rules in
     omega (arith, length-take-le (length c.args.ids.now) c.in-Ok.batch.order (omega (arith, few, wide)), runs.has_order)
 
-pub count_opened-requires : goal.count_opened-requires
-count_opened-requires c = (long-runs _ c.args.table.now c.args.replies.now c.args.order.now c.args.mounts.now (sym c.fits.ensures ∙ c.if-not-fits.false)).has_table
-
 pub overflow_cast-mounts : goal.overflow_cast-mounts
 overflow_cast-mounts c =
-    omega (arith, mounts-small (table_from c.args.table.now) c.args.medium.now c.args.tenant _ (rw c.view_of.ensures.table at c.lookup_batch_in.ensures) c.in-Ok.is (omega (arith, c.view_of.ensures.count, ap (λ (t : Table). t.count) c.view_of.ensures.table)))
+    omega (arith, mounts-small (table_from c.args.table.now) c.args.medium.now c.args.tenant _ (rw (c.view_of.ensures.table, front-table c.args.table.now c.in-Some.words.now c.in-Some.ensures.cases) at c.lookup_batch_in.ensures) c.in-Ok.is (omega (arith, c.view_of.ensures.count, ap (λ (t : Table). t.count) (c.view_of.ensures.table ∙ front-table c.args.table.now c.in-Some.words.now c.in-Some.ensures.cases))))
 
 pub bounds-mounts-0 : goal.bounds-mounts-0
 bounds-mounts-0 c = omega (arith, (long-runs _ c.args.table.now c.args.replies.now c.args.order.now c.args.mounts.now (sym c.fits.ensures ∙ c.if-not-fits.false)).has_mounts)
@@ -61,5 +66,8 @@ bounds-mounts-0 c = omega (arith, (long-runs _ c.args.table.now c.args.replies.n
 pub returns-in-Ok : goal.returns-in-Ok
 returns-in-Ok c =
     let a = c.args in
-    let b = batch-done a.table.now a.medium.now a.tenant a.ids.now a.replies.now a.order.now a.mounts.now _ c.fits.ensures c.if-not-fits.false _ (rw c.view_of.ensures.table at c.lookup_batch_in.ensures) c.in-Ok.is (search rules) (search rules) _ c.sum.ensures _ _ _ _ c.count_opened.ensures c.store_replies.ensures c.store_front.ensures refl in
+    let front = c.in-Some.ensures.cases in
+    let fit = room _ a.table.now a.replies.now a.order.now a.mounts.now front.enough (sym c.fits.ensures ∙ c.if-not-fits.false) in
+    let stored = front-stored a.table.now c.in-Some.words.now front (λ (t : Table). with_opened t a.tenant c.sum.result) _ c.count_opened.ensures in
+    let b = batch-done a.table.now a.medium.now a.tenant a.ids.now a.replies.now a.order.now a.mounts.now true fit refl _ (rw (c.view_of.ensures.table, front-table a.table.now c.in-Some.words.now front) at c.lookup_batch_in.ensures) c.in-Ok.is (search rules) (search rules) _ c.sum.ensures _ _ _ _ stored c.store_replies.ensures c.store_front.ensures refl in
     record { number = b.0; table = b.1.0; replies = b.1.1.0; order = b.1.1.1.0; mounts = b.1.1.1.1 }
