@@ -11,9 +11,6 @@ use table::{Shape, Table, View};
 // How many words a table has, where each of its numbers stands and where each of its columns and its counters begin.
 pub const TABLE_LENGTH: usize = 1035;
 
-// The words of a table.
-pub type Words = [u32; TABLE_LENGTH];
-
 pub const CAPACITY_OFFSET: usize = 0;
 
 pub const SALT_OFFSET: usize = 1;
@@ -29,6 +26,9 @@ pub const NUMERATORS_OFFSET: usize = 515;
 pub const DENOMINATORS_OFFSET: usize = 771;
 
 pub const COUNTERS_OFFSET: usize = 1027;
+
+// The words of a table.
+pub type Words = [u32; TABLE_LENGTH];
 
 // The array that begins at a word, where it lies.
 fn array_in<const N: usize>(words: &[u32], from: usize) -> &[u32; N]
