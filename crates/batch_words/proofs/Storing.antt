@@ -171,8 +171,8 @@ replies-same f g zero words h = refl
 replies-same f g (suc n) words h = ap₂ (λ (w : List ℕ) (r : Reply). with_reply w n r) (replies-same f g n words (λ i l. h i (omega arith))) (h n (omega arith))
 
 -- the first n numbers of a list, taken apart and stored
-front-stored : (xs words : List ℕ) (n : ℕ) → n ≤ length xs → set_below (nth (take n xs)) (length (take n xs)) words ≡ set_below (nth xs) n words
-front-stored xs words n l = rw (length-take-le n xs l) (set_below-cong (nth (take n xs)) (nth xs) n words (λ i b. get_or-take n xs i 0 b))
+front-put : (xs words : List ℕ) (n : ℕ) → n ≤ length xs → set_below (nth (take n xs)) (length (take n xs)) words ≡ set_below (nth xs) n words
+front-put xs words n l = rw (length-take-le n xs l) (set_below-cong (nth (take n xs)) (nth xs) n words (λ i b. get_or-take n xs i 0 b))
 
 -- what `lookup_batch` ensures where it answers a number
 abbrev pub Done : List ℕ → List ℕ → ℕ → List ℕ → List ℕ → List ℕ → List ℕ → ℕ → List ℕ → List ℕ → List ℕ → List ℕ → Type 0
@@ -207,7 +207,7 @@ module _ (table m : List ℕ) (tenant : ℕ) (ids replies order mounts : List �
         let parts-same : with_replies (lookup_part (take (length ids) b.answers)) (length (take (length ids) b.answers)) replies ≡ with_replies (λ i. lookup_reply (table_from table) m tenant (nth ids i)) (length ids) replies =
         replies-same _ _ _ replies (parts-are (table_from table) m tenant ids is f long) ∙ ap (λ (n : ℕ). with_replies (λ i. lookup_reply (table_from table) m tenant (nth ids i)) n replies) (length-front (table_from table) m tenant ids is f long) in
         rw (stored, f)
-        (refl, (t ∙ ap (with_table table) s, (x ∙ parts-same, (y ∙ front-stored b.order order (length ids) (omega (arith, wide, few-ids (table_from table) m tenant ids is f)), w))))
+        (refl, (t ∙ ap (with_table table) s, (x ∙ parts-same, (y ∙ front-put b.order order (length ids) (omega (arith, wide, few-ids (table_from table) m tenant ids is f)), w))))
 
 -- the answer at a position
 module _ (answers : List LookupAnswer) (i : ℕ) where

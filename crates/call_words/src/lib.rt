@@ -46,7 +46,8 @@ fn run_change(call: Call, table: &mut Words, medium: &[u32]) -> Reply
     reply
 }
 
-// Runs a call on a table lent as words; what is no call changes nothing.
+// Runs a call on a table lent as words; what is no call changes nothing. The same on a `Table` is `run` of sheet_call: one function of
+// both would need a trait of a table that is lent, with four methods and their laws, for the five lines that they share.
 pub fn run(call: Option<Call>, table: &mut Words, medium: &mut [u32], steps: &Steps) -> Reply
     ensures reply { result ≡ reply_to (lent table.old medium.old) call }
     ensures table { table.new ≡ with_table table.old (next_by (lent table.old medium.old) call).table }
@@ -71,7 +72,8 @@ pub fn fits(call: &[u32], reply: &[u32]) -> bool
     CALL_LENGTH <= call.len() && REPLY_LENGTH <= reply.len()
 }
 
-// Runs the call at the front of its words, stores its reply and answers its refusal number.
+// Runs the call at the front of its words, stores its reply and answers its refusal number. With burns it is
+// `call_some` of some_words: they share two tests and two lines, and a function of both would take what to run.
 pub fn call(table: &mut [u32], medium: &mut [u32], call: &[u32], reply: &mut [u32]) -> u32
     ensures number { result ≡ (after_call table.old medium.old call.now reply.old).number }
     ensures table { table.new ≡ (after_call table.old medium.old call.now reply.old).table }

@@ -57,7 +57,8 @@ impl Call {
         Some(call)
     }
 
-    // Whether the call changes the servers, as add_server and reweight do. It has no tenant and only reads the medium.
+    // Whether the call changes the servers, as add_server and reweight do. It has no tenant and only reads the medium. An enum of such
+    // calls within this one would spare three functions that they ask for this, and make two matches of each match on a call.
     #[tactic(auto, unfolding(crate::specs::Numbered::on_servers))]
     pub fn on_servers(self) -> bool
         ensures { result ≡ on_servers self }

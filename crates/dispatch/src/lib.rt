@@ -16,7 +16,7 @@ use limits::ALL_BURNS;
 use replies::Reply;
 use table::{Table, View};
 
-// What is no call gets a refusal number that no call gives.
+// What is no call gets a refusal number that no call gives: the C interface answers a number.
 pub fn no_call() -> Reply
     ensures { result ≡ refused no_call_number 0 }
 {

@@ -14,7 +14,7 @@ use medium::Mark;
 use table::View;
 
 // Burns a mark on each live entry of an id on the readable servers from `from` up, as many as `burns` allow, and
-// answers how many such entries there are.
+// answers how many such entries there are. It has seven parameters: what is marked, by which rule, and as what.
 pub fn invalidate(
     medium: &mut [u32],
     table: &View<'_>,

@@ -2,7 +2,6 @@
 #![tactic(auto)]
 
 ghost use Rattle.std.specs.Prelude.{◌≡◌, ℕ, ◌<◌, Some};
-ghost use Rattle.medium.specs.Entry.{Inside};
 ghost use Rattle.table.specs.Parts.{table_of};
 ghost use Rattle.replies.specs.Reply.{found_or, reply_of_lookup};
 ghost use Rattle.lookup.specs.Lookup.{met_reply, lookup_reply, lookup_table};

@@ -12,7 +12,8 @@ use medium::{ENTRY_WORDS, MARK_PLACE, Mark};
 use scan::{BLOCK_ENTRIES, BLOCK_WORDS};
 
 // Burns a mark on each of the `n` entries from an address on that bears an id, the lowest first, while the number of
-// marks is below `burns`: so many were counted before. It answers these with those entries added, burned or not.
+// marks is below `burns`: so many were counted before. It answers these with those entries added, burned or not. Its numbers
+// stand apart: they are one place in the words, one mark and one count, and no other function has them together.
 #[tactic(auto, using(crate::proofs::Marked::few))]
 fn mark_run(
     medium: &mut [u32],
@@ -43,7 +44,8 @@ fn mark_run(
 }
 
 // Burns a mark on each live entry of an id on a server, the lowest first, while the number of marks is below `burns`:
-// `n` were counted before. It answers these with the live entries added, burned or not.
+// `n` were counted before. It answers these with the live entries added, burned or not. It takes no
+// `scan::Server`, which lends the words to be read alone.
 #[tactic(auto, using(crate::proofs::Runs::server_inside, crate::proofs::Marked::few))]
 pub fn invalidate_server(
     medium: &mut [u32],

@@ -2,7 +2,7 @@
 // limit for each server, the greatest draw by which it takes. Then the draws of an id are compared a block of servers at a time.
 #![tactic(auto)]
 
-ghost use Rattle.std.specs.Prelude.{◌≡◌, ℕ, true, ◌+◌, ◌≤◌, ◌<◌, length, leb};
+ghost use Rattle.std.specs.Prelude.{◌≡◌, ℕ, ◌+◌, ◌≤◌, ◌<◌, length, leb};
 ghost use Rattle.std.specs.List.{list_all};
 ghost use Rattle.limits.specs.Limits.{max_capacity};
 ghost use Rattle.lists.specs.Below.{nth, some_below, highest, or_zero, set_below};

@@ -2,7 +2,7 @@
 // and on a table lent as words.
 #![tactic(auto)]
 
-ghost use Rattle.std.specs.Prelude.{◌≡◌, true, ◌≤◌, ◌*◌, length};
+ghost use Rattle.std.specs.Prelude.{◌≡◌, ◌≤◌, ◌*◌, length};
 ghost use Rattle.table_words.specs.Words.{with_table};
 ghost use Rattle.history.specs.Machine.{after, start_state};
 ghost use Rattle.encoding.specs.Encoding.{call_length, reply_length};
@@ -15,7 +15,7 @@ use encoding::CALL_LENGTH;
 use table_words::{TABLE_LENGTH, Words};
 
 // Runs the first `n` encoded calls on a table lent as words. A call and its reply have as many words, so both begin at the same
-// word.
+// word. `n` stands beside the two: how many calls the words of both have room for is what the C interface answers.
 fn run_calls(
     table: &mut Words,
     steps: &Steps,

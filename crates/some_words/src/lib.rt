@@ -1,7 +1,7 @@
 // A write or a delete with a number of burns, on a table lent as words.
 #![tactic(auto)]
 
-ghost use Rattle.std.specs.Prelude.{◌≡◌, true};
+ghost use Rattle.std.specs.Prelude.{◌≡◌};
 ghost use Rattle.table_words.specs.Words.{with_table};
 ghost use Rattle.dispatch.specs.SomeBurns.{some_reply, some_next};
 ghost use Rattle.call_words.specs.CallWords.{lent};

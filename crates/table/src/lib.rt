@@ -11,7 +11,8 @@ use placement::Fraction;
 
 // Document 01's table: capacity is its E, the entries of a server; salt document 02's rack key; count the count of fitted shelves;
 // four arrays have for each server its weight, the entries used, and ReadP as a pair, and their positions at or above the count
-// mean nothing; the counters have for each tenant the servers that its lookups opened.
+// mean nothing; the counters have for each tenant the servers that its lookups opened. They are arrays beside one another, since the
+// words of a table that is lent through the C interface are these columns, and a `View` reads them where they lie.
 #[derive(Clone, Copy)]
 pub struct Table {
     pub capacity: u32,

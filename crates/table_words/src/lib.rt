@@ -4,7 +4,7 @@
 ghost use Rattle.std.specs.Prelude.{◌≡◌, ◌<◌, ◌≤◌, ◌+◌, length, take, drop};
 ghost use Rattle.std.proofs.Math.Seq.{paste};
 ghost use Rattle.table.specs.Parts.{table_of};
-ghost use Rattle.table_words.specs.Words.{table_length, shape_from, table_from, with_table};
+ghost use Rattle.table_words.specs.Words.{shape_from, table_from, with_table};
 
 use table::{Shape, Table, View};
 
