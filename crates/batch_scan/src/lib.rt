@@ -22,12 +22,11 @@ const BLOCK: usize = 8;
 fn slot(word: u32) -> usize
     ensures { result ≡ slot_of word }
 {
-    (word % 4096) as usize
+    word as usize % SLOTS
 }
 
 // Sets the slots of the ids.
 fn fill(filter: &mut [u8; SLOTS], ids: &[u32])
-    requires { length filter.old ≡ slots }
     ensures { Covers filter.new ids.now (length ids.now) }
 {
     for id in ids {
@@ -35,7 +34,8 @@ fn fill(filter: &mut [u8; SLOTS], ids: &[u32])
     }
 }
 
-// Whether the slot of one of the entries of a block is set. The block begins at an address. It looks at every entry, whatever it finds.
+// Whether the slot of one of the entries of a block is set. The block begins at an address. It looks at every entry, whatever it finds,
+// since an early exit is a branch for each.
 fn touches(filter: &[u8; SLOTS], medium: &[u32], at: usize) -> bool
     requires { at + entry_words * block ≤ length medium.now }
     ensures { result ≡ some_below (λ j. is_set filter.now (nth medium.now (at + entry_words * j))) block }
@@ -78,7 +78,6 @@ fn pass(
     high: usize,
 )
     requires ids_len_bound { length ids.now ≤ max_ids }
-    requires newest_len { length newest.old ≡ max_ids }
     requires covers { Covers filter.now ids.now (length ids.now) }
     requires low_le_high { (low ≤ high) × (high ≤ max_capacity) }
     requires high_in_bounds { base + entry_words * high ≤ length medium.now }
@@ -104,7 +103,6 @@ fn pass_all(
     used: usize,
 )
     requires ids_len_bound { length ids.now ≤ max_ids }
-    requires newest_len { length newest.old ≡ max_ids }
     requires covers { Covers filter.now ids.now (length ids.now) }
     requires used_le_max_capacity { used ≤ max_capacity }
     requires used_in_bounds { base + entry_words * used ≤ length medium.now }

@@ -14,7 +14,7 @@ use draws::Steps;
 use replies::Reply;
 use table::Table;
 
-// Runs a call on the table in use.
+// Runs a call on the table in use. The same on a table lent as words is `run` of call_words, which says why they are two.
 fn run(call: Call, table: &mut Table, medium: &mut [u32]) -> Reply
     ensures reply { result ≡ reply_to (record { table = table.old; medium = medium.old }) (Some call) }
     ensures table { table.new ≡ (next_by (record { table = table.old; medium = medium.old }) (Some call)).table }

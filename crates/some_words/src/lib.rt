@@ -29,7 +29,8 @@ fn run(call: Option<Call>, burns: usize, table: &mut Words, medium: &mut [u32]) 
     reply
 }
 
-// Runs the write or the delete at the front of its words with the burns that they say, stores its reply and answers its refusal number.
+// Runs the write or the delete at the front of its words with the burns that they say, stores its reply and answers its refusal
+// number. Without burns it is `call` of call_words, which says why they are two.
 pub fn call_some(table: &mut [u32], medium: &mut [u32], call: &[u32], reply: &mut [u32]) -> u32
     ensures number { result ≡ (after_some table.old medium.old call.now reply.old).number }
     ensures table { table.new ≡ (after_some table.old medium.old call.now reply.old).table }

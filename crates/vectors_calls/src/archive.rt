@@ -6,6 +6,7 @@ use table::Table;
 // As many words as a case may have.
 const MOST_WORDS: usize = 768;
 
+// The words have their number beside them, since their array is as long as the longest case needs.
 #[derive(Drop)]
 pub struct Archive {
     table: Table,
