@@ -13,7 +13,7 @@ use replies::Refusal;
 use table::{Table, View};
 
 // Deletes an id for a tenant on a table that is lent, with as many marks burned as `burns` allow. It answers how many entries it
-// invalidates, as if all were.
+// invalidates, as if all were. The table and the steps are lent apart, as to `invalidate`.
 pub fn delete_in(
     table: &View<'_>,
     steps: &Steps,

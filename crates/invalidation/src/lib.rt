@@ -13,8 +13,9 @@ use draws::Steps;
 use medium::Mark;
 use table::View;
 
-// Burns a mark on each live entry of an id on the readable servers from `from` up, as many as `burns` allow, and
-// answers how many such entries there are. It has seven parameters: what is marked, by which rule, and as what.
+// Burns a mark on each live entry of an id on the readable servers from `from` up, as many as `burns` allow, and answers how many such
+// entries there are. The table and the steps are lent apart, since a list of calls makes its steps once and lends its table anew for
+// each; the other five are one mark.
 pub fn invalidate(
     medium: &mut [u32],
     table: &View<'_>,

@@ -11,9 +11,9 @@ ghost use Rattle.marking.specs.Run.{marks_in};
 use medium::{ENTRY_WORDS, MARK_PLACE, Mark};
 use scan::{BLOCK_ENTRIES, BLOCK_WORDS};
 
-// Burns a mark on each of the `n` entries from an address on that bears an id, the lowest first, while the number of
-// marks is below `burns`: so many were counted before. It answers these with those entries added, burned or not. Its numbers
-// stand apart: they are one place in the words, one mark and one count, and no other function has them together.
+// Burns a mark on each of the `n` entries from an address on that bears an id, the lowest first, while the number of marks is below
+// `burns`: so many were counted before. It answers these with those entries added, burned or not. `from` and `n` say a place by its
+// address, as the definitions do.
 #[tactic(auto, using(crate::proofs::Marked::few))]
 fn mark_run(
     medium: &mut [u32],
