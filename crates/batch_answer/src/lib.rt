@@ -20,7 +20,8 @@ pub const UNANSWERED: LookupAnswer = LookupAnswer {
 
 // The answer to a batch of lookups. `answers` has for each id, in the ids' order, what its lookup answers, and `order` has the
 // ids' positions in the order of finding; after that there are only answers that found 0 and opened nothing, and zeros. `mounts`
-// is the number of servers opened for all ids together.
+// is the number of servers opened for all ids together. They are arrays of 256 since no heap is had, and two since the order is of
+// positions.
 #[derive(Clone, Copy)]
 pub struct Batch {
     pub mounts: usize,

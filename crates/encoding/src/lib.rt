@@ -39,7 +39,8 @@ const SPARE_OFFSET: usize = 6;
 
 const LAST_OFFSET: usize = 7;
 
-// The answer where words that are lent are too few, a number that no call gives.
+// The answer where words that are lent are too few, a number that no call gives. The crates on words answer numbers, and no enum of
+// these and the refusals, since the C interface gives their functions its names.
 pub const TOO_SHORT: u32 = 4294967294;
 
 // How many encoded calls slices of these lengths have room for.

@@ -58,7 +58,7 @@ pub fn entry_at(capacity: usize, server: usize, entry: usize) -> usize
     server_at(capacity, server) + ENTRY_WORDS * entry
 }
 
-// Whether the `n` words from `from` on are blank.
+// Whether the `n` words from `from` on are blank. The two say a place in the medium, as the definitions do.
 pub fn is_blank(medium: &[u32], from: usize, n: usize) -> bool
     requires { from + n ≤ length medium.now }
     ensures { result ≡ blank_run medium.now from n }

@@ -33,7 +33,7 @@ pub fn has(medium: &[u32], from: usize, n: usize, id: u32) -> bool
     found
 }
 
-// Whether some of the `n` entries from `from` on bears an id.
+// Whether some of the `n` entries from `from` on bears an id. The two say a place in the medium, here and above, as the definitions do.
 fn bears_some(medium: &[u32], from: usize, n: usize, id: u32) -> bool
     requires { from + entry_words * n ≤ length medium.now }
     ensures { result ≡ some_below (λ i. bears_at medium.now id (from + entry_words * i)) n }
