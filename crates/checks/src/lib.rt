@@ -36,6 +36,7 @@ pub fn ready(table: &View<'_>, medium: &[u32], outside: bool, other: bool) -> Re
 }
 
 // The tests of a call that a tenant makes for an id. `outside` says whether another argument of the call is out of range.
+// Tenant and id stay apart in the calls, since a batch has one tenant and many ids.
 #[tactic(auto, unfolding(crate::specs::Ready::asked_rows))]
 pub fn asked(
     table: &View<'_>,

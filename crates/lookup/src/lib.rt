@@ -27,7 +27,8 @@ pub fn met(server: &Server<'_>, entry: usize) -> Result<u32, Refusal>
     }
 }
 
-// Looks an id up for a tenant on a table that is lent. The caller counts the servers that were opened.
+// Looks an id up for a tenant on a table that is lent. The caller counts the servers that were opened. The table and the steps are lent
+// apart, since a list of calls makes its steps once and lends its table anew for each.
 pub fn lookup_in(
     table: &View<'_>,
     steps: &Steps,

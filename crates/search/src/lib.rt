@@ -25,7 +25,7 @@ pub struct SearchAnswer {
     pub opened: usize,
 }
 
-// The entry that a lookup meets, and how many servers it opens.
+// The entry that a lookup meets, and how many servers it opens. The table and the steps are lent apart, as to a lookup.
 pub fn find(table: &View<'_>, steps: &Steps, medium: &[u32], id: u32) -> SearchAnswer
     requires { AllInside table.now.shape.capacity table.now.shape.count (nth table.now.used.now) medium.now }
     ensures { result ≡ answer_of (search_for (table_of table.now) medium.now id) }
