@@ -1,4 +1,7 @@
 // The limits of an archive, each named once. The definitions of specs/ have the same names and numbers.
+//
+// Numbers have 32 bits in words and are usize as positions. One is turned into the other by `as` in every crate: Rust has no `From`
+// between them, and the check shows that nothing is lost.
 #![tactic(auto)]
 
 // Servers of a table, and so the numbers in each of its columns.

@@ -175,7 +175,7 @@ impl Weights<'_> {
 }
 
 // The write servers of many ids over the same weights and under a salt: as many as both slices have room for, and none where there
-// is no weight, more than 256 or one above 65,536, or the salt is out of range.
+// is no weight, more than 256 or one above 65,536, or the salt is out of range. It answers their number, since the C interface does.
 #[tactic(auto, using(crate::proofs::Picking::picking), unfolding(crate::specs::Picks::picks_of, lists::specs::Below::set_below))]
 pub fn picks(weights: &[u32], salt: u32, ids: &[u32], servers: &mut [u32]) -> usize
     ensures number { result ≡ picks_of weights.now salt ids.now servers.old }

@@ -53,7 +53,8 @@ pub struct LookupAnswer {
     pub opened: usize,
 }
 
-// A reply in document 01's numbers, as words and lines have it. Refusal 0 is acceptance; what an answer does not carry is 0.
+// A reply in document 01's numbers, as words and lines have it: numbers, and no enum, since the C interface answers them. Refusal 0
+// is acceptance; what an answer does not carry is 0.
 #[derive(Clone, Copy)]
 pub struct Reply {
     pub refusal: u32,
