@@ -30,25 +30,25 @@ impl Call {
     // The call of a number, where it has one, with the caller's tenant, a subject (an id or a server) and an amount (a value or a
     // weight). What the call does not have is not read.
     #[tactic(auto, unfolding(crate::specs::Numbered::call_of))]
-    pub fn of(number: u32, tenant: u32, subject: u32, amount: u32) -> Option<Call>
+    pub fn of(number: u32, tenant: u32, subject: u32, amount: u32) -> Option<Self>
         ensures { result ≡ call_of number tenant subject amount }
     {
         let call = match number {
-            ADD_SERVER => Call::AddServer { weight: amount },
-            REWEIGHT => Call::Reweight {
+            ADD_SERVER => Self::AddServer { weight: amount },
+            REWEIGHT => Self::Reweight {
                 server: subject,
                 weight: amount,
             },
-            WRITE => Call::Write {
+            WRITE => Self::Write {
                 tenant,
                 id: subject,
                 value: amount,
             },
-            DELETE => Call::Delete {
+            DELETE => Self::Delete {
                 tenant,
                 id: subject,
             },
-            LOOKUP => Call::Lookup {
+            LOOKUP => Self::Lookup {
                 tenant,
                 id: subject,
             },
@@ -63,6 +63,6 @@ impl Call {
     pub fn on_servers(self) -> bool
         ensures { result ≡ on_servers self }
     {
-        matches!(self, Call::AddServer { .. } | Call::Reweight { .. })
+        matches!(self, Self::AddServer { .. } | Self::Reweight { .. })
     }
 }

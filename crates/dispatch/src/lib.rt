@@ -75,10 +75,10 @@ pub fn count_write(used: &mut [u32], call: Call, reply: Reply)
     requires { is_write call ≡ true → reply.refusal ≡ 0 → (reply.server < length used.old) × (nth used.old reply.server < max_capacity) }
     ensures { used.new ≡ used_after used.old call reply }
 {
-    if let Call::Write { .. } = call {
-        if reply.refusal == 0 {
-            upkeep::count_entry(used, reply.server);
-        }
+    if let Call::Write { .. } = call
+        && reply.refusal == 0
+    {
+        upkeep::count_entry(used, reply.server);
     }
 }
 

@@ -21,10 +21,12 @@ pub struct Steps {
 impl Steps {
     // The table of constants.
     pub fn new() -> Self {
-        Steps { table: STEPS }
+        Self { table: STEPS }
     }
 
-    // The step of a server. There are at most 256 servers.
+    // The step of a server. There are at most 256 servers, and who asks shows that its number is one of these, here, in placement's
+    // `takes` and in table's `read_p`. A type of such a number would spare five clauses, and be made at each of a dozen calls, where
+    // the number is the index of a loop, to be taken apart in the next line.
     pub fn step(&self, server: usize) -> u32
         requires { server < max_servers }
         ensures { result ≡ step_of server }
@@ -37,8 +39,9 @@ impl Steps {
         requires { server < max_servers }
         ensures { result ≡ seed_of salt id server }
     {
-        let s = id.wrapping_add(salt).wrapping_add(self.step(server));
-        if s == 0 { 1 } else { s }
+        id.wrapping_add(salt)
+            .wrapping_add(self.step(server))
+            .max(1)
     }
 
     // The draw of an id on a server under a salt.

@@ -24,10 +24,7 @@ use table::Table;
 fn count_in(length: usize) -> usize
     ensures { result ≡ count_in length }
 {
-    if length < LEAST_WORDS {
-        return 0;
-    }
-    (length - LEAST_WORDS) / PART_WORDS
+    length.saturating_sub(LEAST_WORDS) / PART_WORDS
 }
 
 // The content of a word, if it has this tag.
@@ -66,6 +63,8 @@ fn read_counters(image: &[u32], from: usize, counters: &mut Counters) -> Option<
     ensures counters { all_below (counter_tagged image.now from) tenants ≡ true
         → counters.new ≡ set_below (λ i. content_at image.now (from + i)) tenants counters.old }
 {
+    // Tried: `zip` of the counters and the words. What the loop has made of the counters then has no name in an invariant, and the
+    // proof did not close.
     for (i, counter) in counters.iter_mut().enumerate() {
         *counter = content(image[from + i], 2)?;
     }

@@ -1,16 +1,20 @@
 -- Laws of printing: a number digit by digit, how long it gets, and runs of bytes put one after another.
 -- Assumes nothing.
-use Prim.Native.Nat.{ℕ, zero, suc, ◌+◌, ◌/◌, ◌%◌, ◌^◌, ◌≤◌, ◌<◌}
-use mathlib.Core.Path.{◌≡◌, ap, ◌∙◌}
-use mathlib.Core.List.{List, [], ◌∷◌, ◌++◌}
+use Prim.Native.Nat.{◌^◌, ℕ, zero, suc, ◌+◌, ◌/◌, ◌%◌, ◌≤◌, ◌<◌}
+use mathlib.Core.Path.{◌≡◌, ap, sym, ◌∙◌}
+use mathlib.Core.List.{List, [], ◌∷◌, ◌++◌, append_assoc}
 use native.Mathlib.Numerals.{add-one}
 use native.Mathlib.Omega.{arith}
-use lib.ListN.{length, set, length-append}
-use lib.Seq.{sets}
+use lib.ListN.{length, set, take, length-append}
+use lib.Seq.{sets, drop-drop}
+use borrow.Rule.Slice.PartMut.{put_mid}
+use Rattle.std.proofs.lemmas.List.Edits.{sets-eq}
 use lib.Dec.{ltb}
 use borrow.Author.Tests.{lt-ltb, le-ltb}
 use Rattle.lists.proofs.Below.{sets-append}
 use Rattle.lists.proofs.Tests.{by_bool}
+use Rattle.std.specs.Fmt as Fmt
+use Rattle.std.proofs.lemmas.Fmt.{decimal_from_appends, length-decimal-le}
 use Rattle.printing.specs.Print.{digits, decimal, printed}
 
 -- room for one digit more changes nothing
@@ -48,20 +52,24 @@ pub decimal-short : (x : ℕ) → length (decimal x) ≤ 10
 unfolding decimal
 decimal-short x = digits-short 10 x
 
--- the only digit of a number
-pub put_small : (l : List ℕ) (at x y : ℕ) → x < 10 → y ≡ 48 + x → set l at y ≡ sets l at (decimal x)
-put_small l at x y h e = rw (e, decimal-small x h)
+-- they are the digits that the library writes
+pub decimal_written : (x : ℕ) → x < 4294967296 → Fmt.decimal x ≡ decimal x
+unfolding decimal digits
+decimal_written x b = sym (decimal_from_appends digits (record { one = one; more = more }) 10 x (omega arith) (length-decimal-le 10 x (omega arith) (omega arith) (omega arith)))
+  where
+    one : (k n : ℕ) → n < 10 → digits (suc k) n ≡ (48 + n) ∷ []
+    one k n h = rw (lt-ltb n 10 h)
 
--- the last digit, after the others
-pub put-more : (l m : List ℕ) (at next x y : ℕ) → 10 ≤ x → x < 4294967296
-    → next ≡ at + length (decimal (x / 10)) → m ≡ sets l at (decimal (x / 10)) → y ≡ 48 + x % 10 → set m next y ≡ sets l at (decimal x)
-put-more l m at next x y h b en em ey = rw (decimal-more x h b, ← sets-append l at (decimal (x / 10)) ((48 + x % 10) ∷ []), em, en, ey)
+    more : (k n : ℕ) → 10 ≤ n → digits (suc k) n ≡ digits k (n / 10) ++ ((48 + n % 10) ∷ [])
+    more k n h = digits_more k n h
 
-pub length-small : (x : ℕ) → x < 10 → length (decimal x) ≡ 1
-length-small x h = rw (decimal-small x h)
-
-pub length_more : (x : ℕ) → 10 ≤ x → x < 4294967296 → length (decimal x) ≡ length (decimal (x / 10)) + 1
-length_more x h b = rw (decimal-more x h b) (simp length-append)
+-- the digits in the place of as many bytes
+pub put_digits : (l ds : List ℕ) (at n x : ℕ) → ds ≡ decimal x → n ≡ length (decimal x) → at + length (decimal x) ≤ length l
+    → put_mid at n l ds ≡ sets l at (decimal x)
+put_digits l ds at n x e en fits =
+    rw (e, en)
+    (ap (λ (rest : List ℕ). take at l ++ (decimal x ++ rest)) (drop-drop (length (decimal x)) at l)
+    ∙ sym (append_assoc (take at l) (decimal x) _) ∙ sym (sets-eq (decimal x) l at fits))
 
 pub put_two : (l : List ℕ) (at a b : ℕ) → set (set l at a) (at + 1) b ≡ sets l at (a ∷ b ∷ [])
 put_two l at a b = rw (add-one at)

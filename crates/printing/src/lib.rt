@@ -7,24 +7,23 @@ ghost use Rattle.std.proofs.lemmas.List.Edits.{sets};
 ghost use Rattle.printing.specs.Print.{longest_line, decimal, printed, question, answered};
 
 use calls::Call;
+use itoa::Buffer;
 use replies::Reply;
 
 // Bytes of the longest line that is printed: a letter, three numbers of ten digits, a blank before each, and LF.
 pub const LONGEST_LINE: usize = 35;
 
-// Puts a number without leading zeros. The digits are put by hand, since no contract says what `write!` puts into a slice.
+// Puts a number without leading zeros.
 fn put_number(out: &mut [u8], at: usize, x: u32) -> usize
     requires { at + 10 ≤ length out.old }
     ensures next { result ≡ at + length (decimal x) }
     ensures bytes { out.new ≡ sets out.old at (decimal x) }
 {
-    if x < 10 {
-        out[at] = b'0' + x as u8;
-        return at + 1;
-    }
-    let next = put_number(out, at, x / 10);
-    out[next] = b'0' + (x % 10) as u8;
-    next + 1
+    let mut buffer = Buffer::new();
+    let digits = buffer.format(x).as_bytes();
+    let next = at + digits.len();
+    out[at..next].copy_from_slice(digits);
+    next
 }
 
 // Puts a whole answer line.

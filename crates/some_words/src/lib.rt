@@ -21,10 +21,10 @@ fn run(call: Option<Call>, burns: usize, table: &mut Words, medium: &mut [u32]) 
 {
     let view = table_words::view_of(table);
     let reply = dispatch::run_some(call, burns, &view, &Steps::new(), medium);
-    if let Some(call) = call {
-        if writing::is_whole(reply.invalidated, burns) {
-            call_words::count(table, call, reply);
-        }
+    if let Some(call) = call
+        && writing::is_whole(reply.invalidated, burns)
+    {
+        call_words::count(table, call, reply);
     }
     reply
 }

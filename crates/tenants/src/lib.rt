@@ -19,7 +19,7 @@ pub fn tenant_of(id: u32) -> u32
 pub fn out_of_range(tenant: u32, id: u32) -> bool
     ensures { result ≡ out_of_range tenant id }
 {
-    (TENANTS <= tenant as usize) | (CONTENT_RANGE <= id)
+    TENANTS <= tenant as usize || CONTENT_RANGE <= id
 }
 
 // Whether the id is another tenant's than the caller's.

@@ -16,8 +16,8 @@ pub struct Archive {
 
 impl Archive {
     // A table of capacity 1 and salt 0 with no server, and no words.
-    pub fn new() -> Archive {
-        Archive {
+    pub fn new() -> Self {
+        Self {
             table: table::empty(1, 0),
             words: [BLANK; MOST_WORDS],
             in_use: 0,

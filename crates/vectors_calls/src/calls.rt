@@ -3,10 +3,7 @@ use crate::{Answer, Archive, Command, crashes};
 
 // The number at a position, if there is one.
 fn number_at(numbers: &[u32], at: u32) -> Answer<'static> {
-    match numbers.get(at as usize) {
-        Some(number) => Answer::Number(u64::from(*number)),
-        None => Answer::Nothing,
-    }
+    numbers.get(at as usize).map_or(Answer::Nothing, |number| Answer::Number(u64::from(*number)))
 }
 
 // Sets the number at a position, if there is one, from outside.

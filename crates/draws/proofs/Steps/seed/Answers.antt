@@ -1,5 +1,7 @@
 -- `draws::Steps::seed` meets its contract: the wrapped sum, or 1 where it is 0.
-use Rattle.std.proofs.Common.{◌≡◌, ℕ, ◌+◌, ◌%◌, arith, eq-eqb, ne_eqb}
+use Rattle.std.proofs.Common.{◌≡◌, ℕ, zero, suc, ◌+◌, ◌%◌, arith, ap, refl, ◌∙◌, ne_eqb}
+use Rattle.std.specs.Prelude.{max}
+use Rattle.std.proofs.Math.Nat.{suc-max-suc, max-zero}
 use Rattle.draws.specs.Draw.{modulus, step_of, nonzero, seed_of}
 use Rattle.draws.proofs.Steps.seed.Goals as goal
 
@@ -7,10 +9,11 @@ use Rattle.draws.proofs.Steps.seed.Goals as goal
 wrapped : (id salt step sum : ℕ) → sum ≡ step → ((id + salt) % modulus + sum) % modulus ≡ (id + step + salt) % modulus
 wrapped id salt step sum e = omega arith
 
-pub returns-then-s-eq0 : goal.returns-then-s-eq0
-unfolding seed_of nonzero
-returns-then-s-eq0 c = rw (← wrapped c.args.id c.args.salt (step_of c.args.server) _ c.step.ensures, eq-eqb _ _ c.if-s-eq0.true)
+at_least_one : (s : ℕ) → max s 1 ≡ nonzero s
+unfolding nonzero
+at_least_one zero = refl
+at_least_one (suc n) = rw (suc-max-suc n 0, max-zero n, ne_eqb (suc n) 0 (omega arith)) refl
 
-pub returns-else-s-eq0 : goal.returns-else-s-eq0
-unfolding seed_of nonzero
-returns-else-s-eq0 c = rw (← wrapped c.args.id c.args.salt (step_of c.args.server) _ c.step.ensures, ne_eqb _ _ c.if-s-eq0.false)
+pub returns : goal.returns
+unfolding seed_of
+returns c = c.max.ensures ∙ at_least_one _ ∙ ap nonzero (wrapped c.args.id c.args.salt (step_of c.args.server) _ c.step.ensures)
