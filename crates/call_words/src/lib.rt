@@ -72,8 +72,8 @@ pub fn fits(call: &[u32], reply: &[u32]) -> bool
     CALL_LENGTH <= call.len() && REPLY_LENGTH <= reply.len()
 }
 
-// Runs the call at the front of its words, stores its reply and answers its refusal number. With burns it is
-// `call_some` of some_words: they share two tests and two lines, and a function of both would take what to run.
+// Runs the call at the front of its words, stores its reply and answers its refusal number. With burns it is `call_some` of some_words:
+// they share two tests and two lines. A function of both would take what to run, and its contract the laws of the two.
 pub fn call(table: &mut [u32], medium: &mut [u32], call: &[u32], reply: &mut [u32]) -> u32
     ensures number { result ≡ (after_call table.old medium.old call.now reply.old).number }
     ensures table { table.new ≡ (after_call table.old medium.old call.now reply.old).table }

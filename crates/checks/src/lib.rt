@@ -11,7 +11,7 @@ use replies::Refusal;
 use table::View;
 
 // The tests in the order of their rows. `outside` says whether an argument of the call is out of range, and `other` whether its id
-// is another tenant's.
+// is another tenant's: two bools, since a row is a number and whether it applies.
 #[tactic(auto, using(table::proofs::Soundness::sound_bounds), unfolding(crate::specs::Ready::ready_rows, crate::specs::Ready::short, replies::specs::Refusal::first_of, replies::specs::Reply::check_number, replies::specs::Reply::number_of))]
 pub fn ready(table: &View<'_>, medium: &[u32], outside: bool, other: bool) -> Result<(), Refusal>
     ensures { check_number result ≡ first_of (ready_rows (table_of table.now) medium.now outside other) }

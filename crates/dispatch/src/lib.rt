@@ -1,4 +1,6 @@
-// One call: add_server and reweight run on a table by reference, every other call on a table that is lent.
+// One call: add_server and reweight run on a table by reference, every other call on a table that is lent. The table and the words of the
+// medium are two parameters here and in every call, and no struct: some calls change the one and read the other, some the other way
+// round, and the C interface lends the two apart. The steps stand beside the table, as to a lookup.
 #![tactic(auto)]
 
 ghost use Rattle.std.specs.Prelude.{◌≡◌, true, false, ◌<◌, length};

@@ -14,8 +14,8 @@ use medium::Mark;
 use table::View;
 
 // Burns a mark on each live entry of an id on the readable servers from `from` up, as many as `burns` allow, and answers how many such
-// entries there are. The table and the steps are lent apart, since a list of calls makes its steps once and lends its table anew for
-// each; the other five are one mark.
+// entries there are. The table and the steps are lent apart, as to a lookup. So are the id, the mark and the burns: a struct of them
+// would be made by write and by delete to be taken apart in the loops below.
 pub fn invalidate(
     medium: &mut [u32],
     table: &View<'_>,

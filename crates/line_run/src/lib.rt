@@ -1,4 +1,4 @@
-// Running one line. Its answer goes to the lent buffer, from a position on.
+// Running one line. Its answer goes to the lent buffer, from a position on. What is lent stands apart, as in sheet_start.
 #![tactic(auto)]
 
 ghost use Rattle.std.specs.Prelude.{◌≡◌, ◌+◌, ◌≤◌, length};

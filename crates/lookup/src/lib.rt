@@ -28,7 +28,8 @@ pub fn met(server: &Server<'_>, entry: usize) -> Result<u32, Refusal>
 }
 
 // Looks an id up for a tenant on a table that is lent. The caller counts the servers that were opened. The table and the steps are lent
-// apart, since a list of calls makes its steps once and lends its table anew for each.
+// apart: a list of calls makes its steps once and lends its table anew for each, so that a struct of both would be made at each call,
+// and every contract, which speaks of the table alone, would reach it through that struct.
 pub fn lookup_in(
     table: &View<'_>,
     steps: &Steps,

@@ -10,7 +10,7 @@ ghost use Rattle.recover_words.specs.RecoverWords.{recover_number, after_recover
 
 use table_words::{NUMERATORS_OFFSET, USED_OFFSET, Words};
 
-// Stores the used of every server by the medium.
+// Stores the used of every server by the medium. That the table is sound stands in a clause, as in upkeep: the words change.
 fn recount(words: &mut Words, medium: &[u32])
     requires words_value { sound (table_from words.old) ≡ true }
     requires words_in_bounds { server_at (table_from words.old).capacity (table_from words.old).count ≤ length medium.now }

@@ -25,8 +25,8 @@ pub fn used_on(medium: &[u32], capacity: usize, server: usize) -> usize
         .map_or(0, |j| j + 1)
 }
 
-// Stores that number for each server in the column of the entries used. The count stands beside the column: a part of the column that
-// is lent in its place would have to be put back by a law in each caller.
+// Stores that number for each server in the column of the entries used. The count stands beside the column: of a part that is lent in
+// its place, each caller would have to say what it makes of the whole.
 pub fn recount(medium: &[u32], capacity: usize, count: usize, used: &mut [u32])
     requires capacity_le_max_capacity { (capacity ≤ max_capacity) × (count ≤ max_servers) × (server_at capacity count ≤ length medium.now) }
     requires count_in_bounds { count ≤ length used.old }

@@ -1,4 +1,5 @@
-// Answers in document 01's numbers.
+// Answers in document 01's numbers. They are functions with names and no `From`: a `Result<usize, Refusal>` has two replies, a server's
+// and a deletion's.
 #![tactic(auto, unfolding(crate::specs::Reply::number_of, crate::specs::Reply::check_number, crate::specs::Reply::reply_of_check, crate::specs::Reply::reply_of_server, crate::specs::Reply::reply_of_write, crate::specs::Reply::reply_of_delete, crate::specs::Reply::found_or, crate::specs::Reply::reply_of_lookup))]
 
 ghost use Rattle.std.specs.Prelude.{◌≡◌};

@@ -25,7 +25,9 @@ pub struct SearchAnswer {
     pub opened: usize,
 }
 
-// The entry that a lookup meets, and how many servers it opens. The table and the steps are lent apart, as to a lookup.
+// The entry that a lookup meets, and how many servers it opens. The table and the steps are lent apart, as to a lookup. A `Server` of a
+// table is made here, in a lookup and in a batch: a function of the three would ask for the two facts that its ghost fields state,
+// and promise each of its four fields.
 pub fn find(table: &View<'_>, steps: &Steps, medium: &[u32], id: u32) -> SearchAnswer
     requires { AllInside table.now.shape.capacity table.now.shape.count (nth table.now.used.now) medium.now }
     ensures { result ≡ answer_of (search_for (table_of table.now) medium.now id) }

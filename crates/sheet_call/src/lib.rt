@@ -1,5 +1,5 @@
 // A call on a sheet runs on the table in use. Before the first accepted S it gets a question mark. What it prints goes to the lent
-// buffer, from a position on.
+// buffer, from a position on. What is lent stands apart, as in sheet_start.
 #![tactic(auto)]
 
 ghost use Rattle.std.specs.Prelude.{◌≡◌, ◌+◌, ◌≤◌, length, Some};

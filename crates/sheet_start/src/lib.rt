@@ -1,5 +1,6 @@
 // A start on a sheet. One that is accepted puts an empty table in use and blanks the words; one that is refused keeps both. Its
-// answer goes to the lent buffer, from a position on.
+// answer goes to the lent buffer, from a position on. The table in use and the words stand apart, and so do the buffer and the position:
+// a struct that holds a `&mut` asks each contract for one clause more, that it still holds the same (printing).
 #![tactic(auto)]
 
 ghost use Rattle.std.specs.Prelude.{◌≡◌, ◌+◌, ◌≤◌, length};

@@ -11,7 +11,8 @@ use std::io::ErrorKind;
 // A read or a write that signals break off so many times in a row has failed.
 const TRIES: usize = 65536;
 
-// Makes one read, and makes it again where a signal broke it off. No bytes are the end of the input.
+// Makes one read, and makes it again where a signal broke it off. No bytes are the end of the input. `write_once` is the same of a write:
+// a function of both would take the call as a closure, and a relation that every answer of the closure has.
 fn read_once<R: io::Read>(reader: &mut R, buf: &mut [u8]) -> io::Result<usize>
     ensures bytes { IfOk result (λ n. n ≤ length buf.old) }
     ensures known { ReadConsumes (R.remaining reader.old) (R.remaining reader.new) result buf.new }

@@ -1,4 +1,5 @@
-// What calls make of a table: one server more, another weight, one entry more used, servers opened for a tenant.
+// What calls make of a table: one server more, another weight, one entry more used, servers opened for a tenant. That a table is sound
+// is a clause of those that ask it, and no type: they change the table, so that the fact would have to be shown of it again.
 #![tactic(auto)]
 
 ghost use Rattle.std.specs.Prelude.{◌≡◌, true, ◌<◌, ◌≤◌, length};

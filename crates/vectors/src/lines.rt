@@ -21,7 +21,8 @@ fn after(input: &[u8], from: usize, byte: u8) -> usize
     }
 }
 
-// A number with one digit more, modulo 2^32.
+// A number with one digit more, modulo 2^32. The digits are summed by hand: `parse` refuses a number that is longer and what is no digit,
+// and any line of the cases has numbers.
 fn longer(number: u32, digit: u8) -> u32 {
     number.wrapping_mul(10).wrapping_add(u32::from(digit % 16))
 }

@@ -6,7 +6,8 @@ use table::Table;
 // As many words as a case may have.
 const MOST_WORDS: usize = 768;
 
-// The words have their number beside them, since their array is as long as the longest case needs.
+// The words have their number beside them, in an array as long as the longest case needs: a `Vec` can fail to grow, and a case's answer
+// would be a `Result` for that alone.
 #[derive(Drop)]
 pub struct Archive {
     table: Table,

@@ -1,5 +1,6 @@
 // The calls and the published method on plain numbers: each runs a command and has an answer, which is printed after a text. The
-// program vectors runs its cases by them.
+// program vectors runs its cases by them. A line of the cases names its call by a letter or a digit, which is matched where it is run: an
+// enum of so many calls would be made from it there to be matched in the next line.
 #![tactic(auto)]
 
 mod answer;

@@ -1,4 +1,5 @@
-// A 32-bit word, of the medium and of a table's image alike: its tag, its content, and the word of both.
+// A 32-bit word, of the medium and of a table's image alike: its tag, its content, and the word of both. A tag is a number of two
+// bits and no enum: a medium's words are an id's, a value's or a mark's by it, while an image's are told apart by their places.
 #![tactic(auto)]
 
 ghost use Rattle.std.specs.Prelude.{◌≡◌, ◌<◌};

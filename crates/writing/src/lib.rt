@@ -44,7 +44,7 @@ fn enter(medium: &mut [u32], at: usize, id: u32, value: u32, burns: usize)
 // Writes for a tenant on a table that is lent: the value and the id go to the write server's next entry, then each earlier live entry
 // of the id on readable servers at or above it is invalidated, with as many burns as `burns` allow. It answers as if all were made.
 // The caller counts the entry as used on the server that is answered, where all burns were made. The table and the steps are lent
-// apart, since a list of calls makes its steps once and lends its table anew for each.
+// apart, as to a lookup.
 pub fn write_in(
     table: &View<'_>,
     steps: &Steps,
