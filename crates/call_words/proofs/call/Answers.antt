@@ -17,9 +17,6 @@ unfolding after_call
 returns-in_default c =
     rw (short_table c.args.table.now c.args.call.now c.args.reply.now c.in_default.ensures.cases) (record { number = refl; table = refl; medium = refl; reply = refl })
 
-pub call_from-requires : goal.call_from-requires
-call_from-requires c = (call_lengths _ _ (sym c.fits.ensures ∙ c.if-not-fits.false)).0
-
 pub store-requires : goal.store-requires
 store-requires c = record {
   reply_length_in_bounds = (call_lengths _ _ (sym c.fits.ensures ∙ c.if-not-fits.false)).1;

@@ -11,9 +11,6 @@ pub returns-in_default : goal.returns-in_default
 unfolding reply_to next_by
 returns-in_default c = rw c.in_default.is (record { reply = c.no_call.ensures; table = sym (stored_same c.args.table.now (omega (arith, c.told-table))); medium = refl })
 
-pub returns-then-on_servers : goal.returns-then-on_servers
-returns-then-on_servers c = rw c.in-Some.is (record { reply = c.run_change.ensures.reply; table = c.run_change.ensures.table; medium = c.run_change.ensures.medium })
-
 pub count-requires : goal.count-requires
 count-requires c =
     counts-there c.args.table.now c.args.medium.now c.in-Some.call (omega (arith, c.told-table)) _ (rw c.view_of.ensures.table at c.run_in-reply.ensures.reply)
