@@ -1,6 +1,5 @@
 -- `some_words::call_some` meets its contract: by whether the runs are long enough, then on the words of the table, which are in front.
 use mathlib.Core.Path.{refl, sym, ◌∙◌}
-use native.Mathlib.Omega.{arith}
 use Rattle.lists.specs.Below.{nth}
 use Rattle.encoding.specs.Encoding.{burns_offset}
 use Rattle.history.specs.Machine.{State}
