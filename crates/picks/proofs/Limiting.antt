@@ -7,14 +7,17 @@ use mathlib.Core.List.{List}
 use native.Mathlib.Omega.{arith}
 use lib.ListN.{length, set}
 use lib.Seq.{get_or-set_same, get_or-set_other}
+use Rattle.std.specs.Prelude.{Option, None, Some}
+use Rattle.std.specs.Option.{unwrap_or, option_map_or}
 use Rattle.std.proofs.Math.Bool.{or_comm}
 use lib.Dec.{leb, ltb, eqb}
-use borrow.Author.Tests.{eqb-true, eqb-false}
+use borrow.Author.Tests.{eqb-true, eqb-false, ltb-true, ltb-false, lt-ltb, le-ltb, le-leb}
 use Rattle.lists.specs.Below.{nth, some_below, highest, or_zero, total}
 use Rattle.lists.proofs.Tests.{by_bool}
 use Rattle.lists.proofs.Below.{some_below-next, highest-next, highest-past, highest-among}
 use Rattle.draws.specs.Draw.{modulus, draw_of}
 use Rattle.draws.proofs.Draws.{draw<}
+use Rattle.placement.specs.declared.Fraction.{Fraction}
 use Rattle.placement.specs.Fraction.{exceeds}
 use Rattle.placement.specs.Rule.{write_server, Bounded}
 use Rattle.placement.proofs.Rules.{write_server-parts}
@@ -28,13 +31,21 @@ LimitOf ws k l = (x : ℕ) → x < modulus → exceeds modulus (part_of ws k) x 
 abbrev pub LimitsBelow : List ℕ → List ℕ → ℕ → Type 0
 LimitsBelow ws ls n = (k : ℕ) → k < n → LimitOf ws k (nth ls k)
 
+-- a limit as a number, which is 0 where there is none: the fraction is 0 then, and its weight alone says that it exceeds no draw
+limit-number : (f : Fraction) (limit : Option ℕ) → ((x : ℕ) → x < modulus → exceeds modulus f x ≡ option_map_or (λ greatest. leb x greatest) limit false)
+    → (x : ℕ) → x < modulus → exceeds modulus f x ≡ ltb 0 f.num && leb x (unwrap_or limit 0)
+unfolding exceeds
+limit-number f None rule x h = rw (rule x h, le-ltb 0 f.num (omega (arith, ltb-false _ _ (rule 0 (omega arith)))))
+limit-number f (Some l) rule x h = rw (rule x h, lt-ltb 0 f.num (omega (arith, ltb-true _ _ (rule 0 (omega arith) ∙ le-leb 0 l (omega arith)))))
+
 -- one server more, its limit worked out from its weight and the sum of those before it
-pub limits-more : (ws ls : List ℕ) (n sum l : ℕ) → n < length ls → LimitsBelow ws ls n → sum ≡ total (nth ws) n
-    → ((x : ℕ) → x < modulus → exceeds modulus (record { num = nth ws n; den = sum + nth ws n }) x ≡ ltb 0 (nth ws n) && leb x l)
-    → LimitsBelow ws (set ls n l) (n + 1)
+pub limits-more : (ws ls : List ℕ) (n sum l : ℕ) (limit : Option ℕ) → n < length ls → LimitsBelow ws ls n → sum ≡ total (nth ws) n
+    → ((x : ℕ) → x < modulus
+    → exceeds modulus (record { num = nth ws n; den = sum + nth ws n }) x ≡ option_map_or (λ greatest. leb x greatest) limit false)
+    → l ≡ unwrap_or limit 0 → LimitsBelow ws (set ls n l) (n + 1)
 unfolding total
-limits-more ws ls n sum l inside before e here = λ k a x h. by_bool (eqb k n)
-    (λ d. rw (eqb-true k n d, get_or-set_same ls n l 0 inside, ← e) (here x h))
+limits-more ws ls n sum l limit inside before e rule number = λ k a x h. by_bool (eqb k n)
+    (λ d. rw (eqb-true k n d, get_or-set_same ls n l 0 inside, ← e, number) (limit-number _ limit rule x h))
     (λ d. rw (get_or-set_other ls n k l 0 (eqb-false k n d)) (before k (omega (arith, eqb-false k n d)) x h))
 
 -- the test of a server by its draw

@@ -131,10 +131,12 @@ impl Weights<'_> {
         let mut sum = 0;
         for (k, &weight) in self.all.iter().enumerate() {
             sum += weight;
-            limits[k] = placement::limit(Fraction {
+            // Where no draw is exceeded the limit is 0: a column of numbers is compared several at a time, and the weight is tested too.
+            let limit = placement::limit(Fraction {
                 num: weight,
                 den: sum,
             });
+            limits[k] = limit.unwrap_or(0);
         }
         limits
     }
