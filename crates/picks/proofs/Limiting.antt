@@ -20,7 +20,7 @@ use Rattle.draws.specs.Draw.{modulus, draw_of}
 use Rattle.draws.proofs.Draws.{draw<}
 use Rattle.placement.specs.declared.Fraction.{Fraction}
 use Rattle.placement.specs.Fraction.{exceeds}
-use Rattle.placement.specs.Rule.{write_server, Bounded}
+use Rattle.placement.specs.Rule.{write_server}
 use Rattle.placement.proofs.Rules.{write_server-parts}
 use Rattle.picks.specs.Limited.{part_of, passes, Limited}
 
@@ -101,6 +101,3 @@ module _ (ws : List ℕ) (salt id k from d : ℕ) (whole : k ≡ from + d) (serv
 -- the k servers that are left, too few for a block
 pub served-rest : (ws : List ℕ) (salt id k r : ℕ) → ServedBy ws salt id k → r ≡ write_server (nth ws) k salt id → r ≡ write_server (nth ws) (length ws) salt id
 served-rest ws salt id k r served e = e ∙ write_server-parts (nth ws) k salt id ∙ sym served
-
-pub bounded-first : (ws : List ℕ) (n k : ℕ) → Bounded ws n → k ≤ n → Bounded ws k
-bounded-first ws n k B l = record { few = omega arith; each = omega arith; light = λ i a. B.light i (omega arith) }

@@ -1,8 +1,8 @@
 -- `picks::Picker::server_of` meets its contract. The invariant: the write server is the highest of those left that take the id.
 use Rattle.std.proofs.Common.{◌≡◌, ℕ, ◌+◌, ◌*◌, ◌-◌, ◌/◌, ◌%◌, length, subst, sym, arith, ◌∙◌}
-use Rattle.placement.proofs.Fronts.{front-bounded, front-server}
+use Rattle.placement.proofs.Fronts.{front-server}
 use Rattle.picks.specs.Limited.{block, passes}
-use Rattle.picks.proofs.Limiting.{ServedBy, served-all, highest-small, served-past, served-among, served-rest, bounded-first}
+use Rattle.picks.proofs.Limiting.{ServedBy, served-all, highest-small, served-past, served-among, served-rest}
 use Rattle.picks.proofs.Picker.server_of.Goals as goal
 
 pub loop-block-init : goal.loop-block-init
@@ -22,9 +22,6 @@ returns-in-Some c =
 
 pub loop-block-preserved : goal.loop-block-preserved
 loop-block-preserved c = served-past _ _ _ _ _ block (omega arith) c.loop-block.invariant _ (sym c.highest_of.ensures) c.in_default.not-Some
-
-pub write_server-requires : goal.write_server-requires
-write_server-requires c = front-bounded _ _ (bounded-first _ _ _ c.args.self.now.bounded (omega arith))
 
 pub returns : goal.returns
 returns c =
