@@ -73,12 +73,10 @@ pub fn is_blank(medium: &[u32], from: usize, n: usize) -> bool
 }
 
 // Whether the entry that begins at an address bears an id and no mark. Such an entry is live if it is below the used ones.
+#[tactic(auto, unfolding(crate::specs::Entry::bears_at))]
 pub fn bears(medium: &[u32], at: usize, id: u32) -> bool
     requires { at + mark_place < length medium.now }
     ensures { result ≡ bears_at medium.now id at }
 {
-    if medium[at] != id {
-        return false;
-    }
-    medium[at + MARK_PLACE] == BLANK
+    medium[at] == id && medium[at + MARK_PLACE] == BLANK
 }

@@ -2,7 +2,8 @@
 // crate knows no table and no medium.
 #![tactic(auto)]
 
-ghost use Rattle.std.specs.Prelude.{◌≡◌, ◌&&◌, ℕ, ◌<◌, leb, ltb, length};
+ghost use Rattle.std.specs.Prelude.{◌≡◌, ℕ, ◌<◌, false, leb, length};
+ghost use Rattle.std.specs.Option.{option_map_or};
 ghost use Rattle.limits.specs.Limits.{max_servers};
 ghost use Rattle.lists.specs.Below.{nth, total};
 ghost use Rattle.draws.specs.Draw.{modulus, draw_of};
@@ -26,20 +27,19 @@ pub fn exceeds(f: Fraction, draw: u32) -> bool
     u64::from(draw) * u64::from(f.den) < u64::from(f.num) * 4294967296
 }
 
-// The greatest draw that a fraction exceeds, if it exceeds any, which it does where it is not 0. For a fraction of 0 it is 0 and no
-// `None`, so that limits are numbers that the compiler compares several at a time (picks).
-pub fn limit(f: Fraction) -> u32
-    ensures { (x : ℕ) → x < modulus → exceeds modulus f x ≡ ltb 0 f.num && leb x result }
+// The greatest draw that a fraction exceeds, if it exceeds any, which it does where it is not 0.
+pub fn limit(f: Fraction) -> Option<u32>
+    ensures { (x : ℕ) → x < modulus → exceeds modulus f x ≡ option_map_or (λ greatest. leb x greatest) result false }
 {
     let num = f.num;
     let den = f.den;
     if num == 0 {
-        return 0;
+        return None;
     }
     if num > den {
-        return u32::MAX;
+        return Some(u32::MAX);
     }
-    ((u64::from(num) * 4294967296 - 1) / u64::from(den)) as u32
+    Some(((u64::from(num) * 4294967296 - 1) / u64::from(den)) as u32)
 }
 
 // Whether one fraction is at least another.

@@ -14,5 +14,5 @@ loop-k-preserved c = record {
   long = simp length-set c.loop-k.invariant.long;
   sum = rw total-more (cc);
   small = omega (arith, c.args.self.now.bounded.light c.loop-k.k (search rules));
-  limits = limits-more c.args.self.now.all.now c.loop-k.limits c.loop-k.k c.loop-k.sum c.limit.result (search rules) c.loop-k.invariant.limits c.loop-k.invariant.sum c.limit.ensures;
+  limits = limits-more c.args.self.now.all.now c.loop-k.limits c.loop-k.k c.loop-k.sum c.unwrap_or.result c.limit-limit.result (search rules) c.loop-k.invariant.limits c.loop-k.invariant.sum c.limit-limit.ensures c.unwrap_or.ensures;
 }
