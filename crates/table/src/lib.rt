@@ -133,10 +133,7 @@ impl View<'_> {
     fn first_sound(&self) -> bool
         ensures { result ≡ cond (ltb 0 self.now.shape.count) (leb (read_p (table_of self.now) 0).den (read_p (table_of self.now) 0).num) true }
     {
-        if self.shape.count < 1 {
-            return true;
-        }
-        self.denominators[0] <= self.numerators[0]
+        self.shape.count < 1 || self.denominators[0] <= self.numerators[0]
     }
 
     // Whether a table of any bits is sound.
