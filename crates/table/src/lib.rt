@@ -1,7 +1,7 @@
 // The table of servers, by value and lent: an empty one, what is read of one, and whether one is sound.
 #![tactic(auto)]
 
-ghost use Rattle.std.specs.Prelude.{◌≡◌, ◌<◌};
+ghost use Rattle.std.specs.Prelude.{◌≡◌, ◌<◌, true};
 ghost use Rattle.limits.specs.Limits.{max_servers};
 ghost use Rattle.table.specs.Parts.{table_of, read_p, empty};
 ghost use Rattle.table.specs.Sound.{in_range, read_sound, sound, first_sound, head_sound};
@@ -42,6 +42,13 @@ pub struct View<'a> {
     pub numerators: &'a Column,
     pub denominators: &'a Column,
     pub counters: &'a Counters,
+}
+
+// A table lent that is sound. What only reads one takes it and asks for nothing else; who makes one has tested the table.
+#[derive(Clone, Copy)]
+pub struct SoundView<'a> {
+    pub view: &'a View<'a>,
+    ghost tested: { sound (table_of view.now) ≡ true },
 }
 
 impl Table {
