@@ -16,13 +16,13 @@ pub fn encode(table: &[u32], destination: &mut [u32], size: &mut [u32]) -> u32
     let Some(words) = table.first_chunk() else {
         return TOO_SHORT;
     };
-    if size.len() < 1 {
+    let Some(first) = size.first_mut() else {
         return TOO_SHORT;
-    }
+    };
     match image_writer::encode_in(&table_words::view_of(words), destination) {
         Err(refusal) => refusal.number(),
         Ok(n) => {
-            size[0] = n as u32;
+            *first = n as u32;
             0
         }
     }
@@ -39,5 +39,5 @@ pub fn decode(image: &[u32], table: &mut [u32]) -> u32
     let mut read = table::empty(0, 0);
     let decoded = image_reader::decode_into(image, &mut read);
     table_words::store_table(words, &read);
-    replies::check_reply(&decoded).refusal
+    replies::check_number(&decoded)
 }

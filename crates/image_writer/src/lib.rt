@@ -7,14 +7,13 @@ ghost use Rattle.limits.specs.Limits.{max_servers, content_range, tenants};
 ghost use Rattle.lists.specs.Below.{nth, join_below};
 ghost use Rattle.counters.specs.Counter.{in_bounds};
 ghost use Rattle.table.specs.Parts.{table_of};
-ghost use Rattle.table.specs.Sound.{sound};
 ghost use Rattle.image.specs.Layout.{head_words, part_words, part_at, image_length, server_words, counter_word, server_image, image_of};
 ghost use Rattle.image.specs.Encoding.{reply_of_encode, encode_reply, encode_words};
 
 use limits::{Counters, TENANTS};
 use placement::Fraction;
 use replies::Refusal;
-use table::{Table, View};
+use table::{SoundView, Table, View};
 
 // Where capacity and salt stand, and how many words are before the servers'.
 pub const CAPACITY_PLACE: usize = 0;
@@ -59,12 +58,12 @@ fn store_server(destination: &mut [u32], at: usize, weight: u32, used: u32, read
 
 // Stores the words of the servers of a sound table.
 #[tactic(auto, using(table::proofs::Soundness::sound_bounds), unfolding(lists::specs::Below::join_below))]
-fn store_servers(table: &View<'_>, destination: &mut [u32])
-    requires table_value { sound (table_of table.now) ≡ true }
-    requires count_in_bounds { part_at table.now.shape.count ≤ length destination.old }
+fn store_servers(sound: &SoundView<'_>, destination: &mut [u32])
+    requires { part_at sound.now.view.now.shape.count ≤ length destination.old }
     ensures { destination.new
-        ≡ sets destination.old head_words (join_below (server_image (table_of table.now)) table.now.shape.count) }
+        ≡ sets destination.old head_words (join_below (server_image (table_of sound.now.view.now)) sound.now.view.now.shape.count) }
 {
+    let table = sound.view;
     for k in 0..table.shape.count {
         store_server(
             destination,
@@ -90,14 +89,14 @@ fn store_counters(destination: &mut [u32], from: usize, counters: &Counters)
 }
 
 // Stores the image of a sound table.
-fn store_image(table: &View<'_>, destination: &mut [u32])
-    requires table_value { sound (table_of table.now) ≡ true }
-    requires count_in_bounds { image_length table.now.shape.count ≤ length destination.old }
-    ensures { destination.new ≡ sets destination.old 0 (image_of (table_of table.now)) }
+fn store_image(sound: &SoundView<'_>, destination: &mut [u32])
+    requires { image_length sound.now.view.now.shape.count ≤ length destination.old }
+    ensures { destination.new ≡ sets destination.old 0 (image_of (table_of sound.now.view.now)) }
 {
+    let table = sound.view;
     destination[CAPACITY_PLACE] = words::tagged(0, table.shape.capacity);
     destination[SALT_PLACE] = words::tagged(1, table.shape.salt);
-    store_servers(table, destination);
+    store_servers(sound, destination);
     store_counters(
         destination,
         HEAD_WORDS + PART_WORDS * table.shape.count,
@@ -114,11 +113,12 @@ pub fn encode_in(table: &View<'_>, destination: &mut [u32]) -> Result<usize, Ref
     if !table.is_sound() {
         return Err(Refusal::UnsoundTable);
     }
+    let sound = SoundView { view: table };
     let length = image_length(table.shape.count);
     if destination.len() < length {
         return Err(Refusal::ShortDestination);
     }
-    store_image(table, destination);
+    store_image(&sound, destination);
     Ok(length)
 }
 

@@ -1,9 +1,8 @@
 // The tests before a write, in the order of its rows, and the server that it goes to.
 #![tactic(auto)]
 
-ghost use Rattle.std.specs.Prelude.{◌≡◌, true, IfOk};
+ghost use Rattle.std.specs.Prelude.{◌≡◌, IfOk};
 ghost use Rattle.table.specs.Parts.{table_of};
-ghost use Rattle.table.specs.Sound.{sound};
 ghost use Rattle.replies.specs.Refusal.{first_of};
 ghost use Rattle.replies.specs.Reply.{check_number};
 ghost use Rattle.planning.specs.WriteRows.{target, write_rows};
@@ -11,13 +10,13 @@ ghost use Rattle.planning.specs.WriteRows.{target, write_rows};
 use draws::Steps;
 use limits::CONTENT_RANGE;
 use replies::Refusal;
-use table::View;
+use table::{SoundView, View};
 
 // The server that a write of an id goes to on a sound table.
-fn target_of(table: &View<'_>, steps: &Steps, id: u32) -> usize
-    requires { sound (table_of table.now) ≡ true }
-    ensures { result ≡ target (table_of table.now) id }
+fn target_of(sound: &SoundView<'_>, steps: &Steps, id: u32) -> usize
+    ensures { result ≡ target (table_of sound.now.view.now) id }
 {
+    let table = sound.view;
     let shape = table.shape;
     // The slice has a name, so that the check knows its length from the array's type.
     let weights = table.weights;
@@ -38,8 +37,9 @@ pub fn plan_write(
     ensures server { IfOk result (λ k. k ≡ target (table_of table.now) id) }
 {
     checks::asked(table, medium, tenant, id, CONTENT_RANGE <= value)?;
+    let sound = SoundView { view: table };
     let shape = table.shape;
-    let server = target_of(table, steps, id);
+    let server = target_of(&sound, steps, id);
     let entry = table.used[server];
     if entry == shape.capacity {
         return Err(Refusal::ServerFull);

@@ -1,2 +1,3 @@
 pub mod Soundness
+pub mod Testing
 pub mod Agreement

@@ -1,6 +1,6 @@
 -- When a table is sound (document 01, "The table", and document 02, items 4 and 5), for arbitrary bits. Only positions below
 -- the count are read.
-use Rattle.std.specs.Prelude.{ℕ, Bool, ◌&&◌, leb, ltb}
+use Rattle.std.specs.Prelude.{ℕ, Bool, ◌&&◌, ◌||◌, leb, ltb}
 use Rattle.limits.specs.Limits.{max_servers, max_capacity, max_sum, content_range}
 use Rattle.lists.specs.Below.{all_below}
 use Rattle.counters.specs.Counter.{in_bounds}
@@ -37,3 +37,10 @@ sound t =
     && (leb t.count max_servers
     && (in_bounds t.counters
     && all_below (server_sound t) t.count))
+
+-- what is tested before the servers: ReadP of server 0, if it is there, is at least 1, and what a table has once is in range
+unfoldable pub first_sound : Table → Bool
+first_sound t = ltb t.count 1 || leb (read_p t 0).den (read_p t 0).num
+
+unfoldable pub head_sound : Table → Bool
+head_sound t = in_range t.capacity t.salt && (leb t.count max_servers && (in_bounds t.counters && first_sound t))

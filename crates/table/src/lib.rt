@@ -1,10 +1,10 @@
 // The table of servers, by value and lent: an empty one, what is read of one, and whether one is sound.
 #![tactic(auto)]
 
-ghost use Rattle.std.specs.Prelude.{◌≡◌, ◌<◌, true, cond, leb, ltb};
+ghost use Rattle.std.specs.Prelude.{◌≡◌, ◌<◌, true};
 ghost use Rattle.limits.specs.Limits.{max_servers};
 ghost use Rattle.table.specs.Parts.{table_of, read_p, empty};
-ghost use Rattle.table.specs.Sound.{in_range, read_sound, sound};
+ghost use Rattle.table.specs.Sound.{in_range, read_sound, sound, first_sound, head_sound};
 
 use limits::{CONTENT_RANGE, Column, Counters, MAX_CAPACITY, MAX_SERVERS, MAX_SUM, TENANTS};
 use placement::Fraction;
@@ -42,6 +42,13 @@ pub struct View<'a> {
     pub numerators: &'a Column,
     pub denominators: &'a Column,
     pub counters: &'a Counters,
+}
+
+// A table lent that is sound. What only reads one takes it and asks for nothing else; who makes one has tested the table.
+#[derive(Clone, Copy)]
+pub struct SoundView<'a> {
+    pub view: &'a View<'a>,
+    ghost tested: { sound (table_of view.now) ≡ true },
 }
 
 impl Table {
@@ -130,42 +137,38 @@ impl View<'_> {
     }
 
     // Whether ReadP of server 0, if it is there, is at least 1, which is its WriteP.
+    #[tactic(auto, unfolding(crate::specs::Sound::first_sound))]
     fn first_sound(&self) -> bool
-        ensures { result ≡ cond (ltb 0 self.now.shape.count) (leb (read_p (table_of self.now) 0).den (read_p (table_of self.now) 0).num) true }
+        ensures { result ≡ first_sound (table_of self.now) }
     {
-        if self.shape.count < 1 {
-            return true;
-        }
-        self.denominators[0] <= self.numerators[0]
+        self.shape.count < 1 || self.denominators[0] <= self.numerators[0]
+    }
+
+    // What is tested before the servers: what the table has once, and ReadP of server 0.
+    #[tactic(auto, unfolding(crate::specs::Sound::head_sound))]
+    fn head_sound(&self) -> bool
+        ensures { result ≡ head_sound (table_of self.now) }
+    {
+        let counters = self.counters;
+        in_range(self.shape.capacity, self.shape.salt)
+            && self.shape.count <= MAX_SERVERS
+            && counters::in_bounds(counters)
+            && self.first_sound()
     }
 
     // Whether a table of any bits is sound.
+    #[tactic(auto, using(crate::proofs::Testing::head_bounds, crate::proofs::Testing::head_refused, crate::proofs::Testing::all_tested), unfolding(lists::specs::Below::all_below, lists::specs::Below::total))]
     pub fn is_sound(&self) -> bool
         ensures { result ≡ sound (table_of self.now) }
     {
+        if !self.head_sound() {
+            return false;
+        }
         let capacity = self.shape.capacity;
-        let count = self.shape.count;
-        // An `if` for each test. Tried: `||` for the four, whose proof names each way to it twice and is longer.
-        if !in_range(capacity, self.shape.salt) {
-            return false;
-        }
-        if count > MAX_SERVERS {
-            return false;
-        }
-        let counters = self.counters;
-        if !counters::in_bounds(counters) {
-            return false;
-        }
-        if !self.first_sound() {
-            return false;
-        }
         let mut sum: u32 = 0;
-        for i in 0..count {
+        for i in 0..self.shape.count {
             let weight = self.weights[i];
-            if weight > capacity {
-                return false;
-            }
-            if self.used[i] > capacity {
+            if weight > capacity || self.used[i] > capacity {
                 return false;
             }
             sum += weight;

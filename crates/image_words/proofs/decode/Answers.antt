@@ -6,6 +6,7 @@ use Rattle.table.specs.declared.Table.{Table}
 use Rattle.table_words.specs.Words.{with_table}
 use Rattle.table_words.proofs.Lent.{front-stored}
 use Rattle.replies.specs.declared.Reply.{Reply}
+use Rattle.replies.proofs.Answers.{number_of_reply}
 use Rattle.image.specs.Decoding.{decode_table}
 use Rattle.image.proofs.Theorem.{decoded_few}
 use Rattle.image_words.specs.ImageWords.{decode_number, after_decode}
@@ -24,6 +25,6 @@ unfolding decode_number after_decode
 returns c =
     let front = c.in-Some.ensures.cases in
     record {
-      number = rw (le-leb _ _ front.enough) (ap (λ (r : Reply). r.refusal) (c.check_reply.ensures ∙ c.decode_into-decoded.ensures.reply));
+      number = rw (le-leb _ _ front.enough) (c.check_number.ensures ∙ number_of_reply _ ∙ ap (λ (r : Reply). r.refusal) c.decode_into-decoded.ensures.reply);
       table = front-stored c.args.table.now c.in-Some.words.now front (λ (_ : Table). decode_table c.args.image.now) _ (c.store_table.ensures ∙ ap (with_table c.in-Some.words.now) c.decode_into-decoded.ensures.table);
     }

@@ -1,10 +1,11 @@
 -- `image_words::encode` meets its contract: a number of words fits into a word, and a refused encode stores none.
 use Prim.Native.Nat.{ℕ, ◌≤◌}
-use mathlib.Core.Path.{◌≡◌, refl, ◌∙◌}
+use mathlib.Core.Path.{◌≡◌, refl, ap, ◌∙◌}
 use mathlib.Core.List.{List}
 use native.Mathlib.Omega.{arith}
 use lib.ListN.{length, set}
 use borrow.Author.Tests.{ne_eqb, le-leb, lt-leb}
+use Rattle.std.proofs.lemmas.List.{set-get_or}
 use Rattle.std.specs.Prelude.{Ok, Err}
 use Rattle.table_words.specs.Words.{table_length, table_from}
 use Rattle.table_words.proofs.Lent.{front-table}
@@ -36,24 +37,26 @@ pub returns-in_default : goal.returns-in_default
 unfolding after_encode fits_encode
 returns-in_default c = rw (lt-leb _ _ c.in_default.ensures.cases) (record { number = refl; destination = refl; size = refl })
 
-pub returns-then-size-lt1 : goal.returns-then-size-lt1
+pub returns-in_default-first_mut : goal.returns-in_default-first_mut
 unfolding after_encode fits_encode
-returns-then-size-lt1 c =
-    rw (le-leb _ _ c.in-Some.ensures.cases.enough, lt-leb _ _ c.if-size-lt1.true) (record { number = refl; destination = refl; size = refl })
+returns-in_default-first_mut c =
+    rw (le-leb _ _ c.in-Some.ensures.cases.enough, lt-leb 1 (length c.args.size.now) (omega (arith, c.in_default-first_mut.ensures.item.3))) (record { number = refl; destination = refl; size = refl })
 
-pub overflow_cast-size : goal.overflow_cast-size
-overflow_cast-size c = omega (arith, encoded_few _ _ _ c.in-Ok.ensures.reply)
+pub overflow_cast-first : goal.overflow_cast-first
+overflow_cast-first c = omega (arith, encoded_few _ _ _ c.in-Ok.ensures.reply)
 
 pub returns-in-Err : goal.returns-in-Err
 returns-in-Err c =
     let a = c.args in
     let front = c.in-Some.ensures.cases in
+    let word = c.in-Some-first_mut.ensures.item in
     let same = c.view_of.ensures.table ∙ front-table a.table.now c.in-Some.words.now front in
-    let r = refused a.table.now a.destination.now a.size.now front.enough (omega arith) c.in-Err.refusal (rw same at c.in-Err.ensures.reply) in
+    let some : 1 ≤ length a.size.now = omega (arith, word.3.0) in
+    let r = refused a.table.now a.destination.now a.size.now front.enough some c.in-Err.refusal (rw same at c.in-Err.ensures.reply) in
     record {
       number = c.number.ensures ∙ r.0;
-      destination = (rw same at c.in-Err.ensures.words) ∙ destination a.table.now a.destination.now a.size.now front.enough (omega arith);
-      size = r.1;
+      destination = (rw same at c.in-Err.ensures.words) ∙ destination a.table.now a.destination.now a.size.now front.enough some;
+      size = ap (set a.size.now 0) word.1 ∙ set-get_or a.size.now 0 _ ∙ r.1;
     }
 
 pub returns-in-Ok : goal.returns-in-Ok
@@ -61,9 +64,10 @@ returns-in-Ok c =
     let a = c.args in
     let front = c.in-Some.ensures.cases in
     let same = c.view_of.ensures.table ∙ front-table a.table.now c.in-Some.words.now front in
-    let r = written a.table.now a.destination.now a.size.now front.enough (omega arith) c.in-Ok.n (rw same at c.in-Ok.ensures.reply) in
+    let some : 1 ≤ length a.size.now = omega (arith, c.in-Some-first_mut.ensures.item.3.0) in
+    let r = written a.table.now a.destination.now a.size.now front.enough some c.in-Ok.n (rw same at c.in-Ok.ensures.reply) in
     record {
       number = r.0;
-      destination = (rw same at c.in-Ok.ensures.words) ∙ destination a.table.now a.destination.now a.size.now front.enough (omega arith);
+      destination = (rw same at c.in-Ok.ensures.words) ∙ destination a.table.now a.destination.now a.size.now front.enough some;
       size = r.1;
     }

@@ -21,8 +21,8 @@ returns-in_err-asked-clause-number c =
     let e = check-refused _ c.asked.ensures c.in_err-asked.was in
     rw (p.1, p.2) (e ∙ sym (first-earlier _ _ (asked-numbered (table_of c.args.table.now) c.args.medium.now c.args.tenant c.args.id _) (λ z. number-not-zero _ (e ∙ z))))
 
-pub target_of-server-requires : goal.target_of-server-requires
-target_of-server-requires c = (asked-ready (table_of c.args.table.now) _ _ _ _ (check-accepted _ c.asked.ensures c.in_ok-asked.was)).is_sound
+pub invariant_of-sound : goal.invariant_of-sound
+invariant_of-sound c = record { tested = (asked-ready (table_of c.args.table.now) _ _ _ _ (check-accepted _ c.asked.ensures c.in_ok-asked.was)).is_sound }
 
 pub offset_bounds-table-server : goal.offset_bounds-table-server
 unfolding target

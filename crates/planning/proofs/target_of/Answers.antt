@@ -10,17 +10,17 @@ use Rattle.planning.proofs.target_of.Goals as goal
 
 pub slice_bounds-write_server-end : goal.slice_bounds-write_server-end
 slice_bounds-write_server-end c =
-    let t = table_of c.args.table.now in
-    sym (length-take-le t.count t.weights (sound-bounded t (search rules) (sound-facts t c.requires)).each)
+    let t = table_of c.args.sound.now.view.now in
+    sym (length-take-le t.count t.weights (sound-bounded t (search rules) (sound-facts t c.args.sound.now.tested)).each)
 
 pub write_server-requires : goal.write_server-requires
 write_server-requires c =
-    let t = table_of c.args.table.now in
-    front-bounded _ _ (sound-bounded t (search rules) (sound-facts t c.requires))
+    let t = table_of c.args.sound.now.view.now in
+    front-bounded _ _ (sound-bounded t (search rules) (sound-facts t c.args.sound.now.tested))
 
 pub returns : goal.returns
 unfolding target
 returns c =
-    let t = table_of c.args.table.now in
-    let few = sound-bounded t (search rules) (sound-facts t c.requires) in
+    let t = table_of c.args.sound.now.view.now in
+    let few = sound-bounded t (search rules) (sound-facts t c.args.sound.now.tested) in
     c.write_server.ensures ∙ front-server _ _ _ _ few.each
