@@ -9,4 +9,4 @@ loop-i-init c = met_none _ _ _ _
 pub loop-i-preserved : goal.loop-i-preserved
 loop-i-preserved c =
     let a = c.args in
-    meet-more a.word a.entry a.ids.now a.newest.now c.loop-i.newest c.loop-i.i c.meet_one.result c.loop-i.invariant (omega arith) c.meet_one.ensures
+    meet-more a.word a.entry a.ids.now.all.now a.newest.now c.loop-i.newest c.loop-i.i c.meet_one.result c.loop-i.invariant (omega arith) c.meet_one.ensures
