@@ -9,8 +9,7 @@ use Rattle.table.specs.declared.Table.{Table}
 use Rattle.table_words.specs.Words.{table_from}
 use Rattle.table_words.proofs.Lent.{front-table, front-kept, front-stored}
 use Rattle.upkeep.specs.Upkeep.{with_opened}
-use Rattle.batch.proofs.Counting.{answered-small}
-use Rattle.batch_words.proofs.Storing.{no_table, no_room, room, long-runs, few-ids, length-front, opened-small, mounts-small, batch-short, batch-refused, batch-done}
+use Rattle.batch_words.proofs.Storing.{no_table, no_room, room, long-runs, few-ids, mounts-small, batch-short, batch-refused, batch-done}
 use Rattle.batch_words.proofs.lookup_batch.Goals as goal
 
 pub returns-then-not-fits : goal.returns-then-not-fits
@@ -34,20 +33,13 @@ returns-in-Err c =
     record { number = c.number.ensures ∙ b.0; table = front-kept a.table.now c.in-Some.words.now front ∙ b.1.0; replies = b.1.1.0; order = b.1.1.1.0; mounts = b.1.1.1.1 }
 
 pub store_replies-requires : goal.store_replies-requires
-store_replies-requires c =
-    let runs = long-runs _ c.args.table.now c.args.replies.now c.args.order.now c.args.mounts.now (sym c.fits.ensures ∙ c.if-not-fits.false) in
-    let t = table_from c.args.table.now in
-    let is = rw (c.view_of.ensures.table, front-table c.args.table.now c.in-Some.words.now c.in-Some.ensures.cases) at c.lookup_batch_in.ensures in
-    record {
-      answers_in_bounds = rw (length-front t c.args.medium.now c.args.tenant _ is c.in-Ok.is (search rules)) runs.has_replies;
-      by_index = opened-small t c.args.medium.now c.args.tenant _ is c.in-Ok.is (search rules);
-    }
+store_replies-requires c = record {
+  few = few-ids (table_from c.args.table.now) c.args.medium.now c.args.tenant _ (rw (c.view_of.ensures.table, front-table c.args.table.now c.in-Some.words.now c.in-Some.ensures.cases) at c.lookup_batch_in.ensures) c.in-Ok.is;
+  room = (long-runs _ c.args.table.now c.args.replies.now c.args.order.now c.args.mounts.now (sym c.fits.ensures ∙ c.if-not-fits.false)).has_replies;
+}
 
-pub shared_ref_as_front-store_replies : goal.shared_ref_as_front-store_replies
-shared_ref_as_front-store_replies c = few-ids (table_from c.args.table.now) c.args.medium.now c.args.tenant _ (rw (c.view_of.ensures.table, front-table c.args.table.now c.in-Some.words.now c.in-Some.ensures.cases) at c.lookup_batch_in.ensures) c.in-Ok.is
-
-pub sum-requires : goal.sum-requires
-sum-requires c = answered-small _ _ _ _ (rw (c.view_of.ensures.table, front-table c.args.table.now c.in-Some.words.now c.in-Some.ensures.cases) at c.lookup_batch_in.ensures) c.in-Ok.is
+pub shared_ref_as_front-store_front : goal.shared_ref_as_front-store_front
+shared_ref_as_front-store_front c = few-ids (table_from c.args.table.now) c.args.medium.now c.args.tenant _ (rw (c.view_of.ensures.table, front-table c.args.table.now c.in-Some.words.now c.in-Some.ensures.cases) at c.lookup_batch_in.ensures) c.in-Ok.is
 
 pub store_front-requires : goal.store_front-requires
 store_front-requires c =
@@ -68,6 +60,6 @@ returns-in-Ok c =
     let a = c.args in
     let front = c.in-Some.ensures.cases in
     let fit = room _ a.table.now a.replies.now a.order.now a.mounts.now front.enough (sym c.fits.ensures ∙ c.if-not-fits.false) in
-    let stored = front-stored a.table.now c.in-Some.words.now front (λ (t : Table). with_opened t a.tenant c.sum.result) _ c.count_opened.ensures in
-    let b = batch-done a.table.now a.medium.now a.tenant a.ids.now a.replies.now a.order.now a.mounts.now true fit refl _ (rw (c.view_of.ensures.table, front-table a.table.now c.in-Some.words.now front) at c.lookup_batch_in.ensures) c.in-Ok.is (search rules) (search rules) _ c.sum.ensures _ _ _ _ stored c.store_replies.ensures c.store_front.ensures refl in
+    let stored = front-stored a.table.now c.in-Some.words.now front (λ (t : Table). with_opened t a.tenant c.opened.result) _ c.count_opened.ensures in
+    let b = batch-done a.table.now a.medium.now a.tenant a.ids.now a.replies.now a.order.now a.mounts.now true fit refl _ (rw (c.view_of.ensures.table, front-table a.table.now c.in-Some.words.now front) at c.lookup_batch_in.ensures) c.in-Ok.is (search rules) _ c.opened.ensures _ _ _ _ stored c.store_replies.ensures c.store_front.ensures refl in
     record { number = b.0; table = b.1.0; replies = b.1.1.0; order = b.1.1.1.0; mounts = b.1.1.1.1 }
