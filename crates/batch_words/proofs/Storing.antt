@@ -2,7 +2,7 @@
 -- Assumes nothing.
 use Prim.Native.Nat.{ℕ, zero, suc, ◌*◌, ◌≤◌, ◌<◌}
 use mathlib.Core.Path.{◌≡◌, refl, sym, ap, ap₂, ◌∙◌}
-use mathlib.Core.Bool.{Bool, true, false, not, ◌&&◌}
+use mathlib.Core.Bool.{Bool, true, false, not, ◌&&◌, and-false}
 use mathlib.Core.List.{List}
 use native.Mathlib.Omega.{arith}
 use lib.ListN.{length, set, get_or, take}
@@ -12,7 +12,7 @@ use borrow.Author.Tests.{le-leb, lt-leb, leb-true, ltb-false, eqb-true, eqb-fals
 use Rattle.limits.specs.Limits.{max_ids}
 use Rattle.lists.specs.Below.{nth, total, set_below}
 use Rattle.lists.proofs.Tests.{and_l, and_r, by_bool}
-use Rattle.lists.proofs.Below.{set_below-cong}
+use Rattle.lists.proofs.Below.{set_below-cong, set-nth}
 use Rattle.table.specs.declared.Table.{Table}
 use Rattle.table.specs.Sound.{sound}
 use Rattle.table_words.specs.Words.{table_length, table_from, with_table}
@@ -40,37 +40,43 @@ use Rattle.encoding.specs.Encoding.{reply_length, too_short, with_reply}
 use Rattle.replay.specs.Replay.{with_replies}
 use Rattle.batch_words.specs.BatchWords.{fits_batch, batch_stored, after_batch, lookup_part}
 
--- whether the runs are long enough, by the length of the table and by the test of the others
+-- whether the runs are long enough, by the lengths of the table and of the mounts and by the test of the others
 module _ (n : ℕ) (table replies order mounts : List ℕ) where
   abbrev pub Others : Bool → Type 0
-  Others b = (leb (reply_length * n) (length replies) && (leb n (length order) && leb 1 (length mounts))) ≡ b
+  Others b = (leb (reply_length * n) (length replies) && leb n (length order)) ≡ b
 
   pub no_table : length table < table_length → false ≡ fits_batch n table replies order mounts
   unfolding fits_batch
   no_table l = rw (lt-leb _ _ l)
 
+  pub no_mounts : length mounts < 1 → false ≡ fits_batch n table replies order mounts
+  unfolding fits_batch
+  no_mounts l = rw (lt-leb 1 (length mounts) l, and-false (leb n (length order)), and-false (leb (reply_length * n) (length replies)), and-false (leb table_length (length table)))
+
   pub no_room : Others false → false ≡ fits_batch n table replies order mounts
   unfolding fits_batch
-  no_room e = rw e (by_bool (leb table_length (length table)) (λ y. rw y) (λ z. rw z))
-
-  pub room : table_length ≤ length table → Others true → true ≡ fits_batch n table replies order mounts
-  unfolding fits_batch
-  room l e = rw (le-leb _ _ l, e)
+  no_room e = by_bool (leb (reply_length * n) (length replies))
+      (λ r. let o : leb n (length order) ≡ false = rw r at e in rw (r, o, and-false (leb table_length (length table))))
+      (λ r. rw (r, and-false (leb table_length (length table))))
 
   -- what follows where the others are
   pub record Fits : Type 0 where
     pub has_replies : reply_length * n ≤ length replies
     pub has_order : n ≤ length order
-    pub has_mounts : 1 ≤ length mounts
 
   pub long-runs : Others true → Fits
-  long-runs e =
-      let two = and_r (leb (reply_length * n) (length replies)) _ e in
-      record {
-        has_replies = leb-true _ _ (and_l (leb (reply_length * n) (length replies)) _ e);
-        has_order = leb-true _ _ (and_l (leb n (length order)) _ two);
-        has_mounts = leb-true _ _ (and_r (leb n (length order)) _ two);
-      }
+  long-runs e = record {
+    has_replies = leb-true _ _ (and_l (leb (reply_length * n) (length replies)) _ e);
+    has_order = leb-true _ _ (and_r (leb (reply_length * n) (length replies)) _ e);
+  }
+
+  pub room : table_length ≤ length table → 1 ≤ length mounts → Others true → true ≡ fits_batch n table replies order mounts
+  unfolding fits_batch
+  room l k e = rw (le-leb _ _ l, le-leb _ _ k, le-leb _ _ (long-runs e).has_replies, le-leb _ _ (long-runs e).has_order)
+
+-- the mounts' first word is stored as it was
+pub mount-kept : (mounts : List ℕ) {mount : ℕ} → mount ≡ nth mounts 0 → set mounts 0 mount ≡ mounts
+mount-kept mounts e = ap (set mounts 0) e ∙ set-nth mounts 0
 
 -- the answer to a list that is not refused
 module _ (t : Table) (m : List ℕ) (tenant : ℕ) (ids : List ℕ) (a : BatchReply) (is : a ≡ batch_reply t m tenant ids) where

@@ -11,12 +11,11 @@ ghost use Rattle.batch_words.specs.BatchWords.{lookup_part, after_batch};
 use batch_answer::Batch;
 use encoding::REPLY_LENGTH;
 
-// Whether the runs besides the table are long enough for a batch of `n` ids.
-fn fits(n: usize, replies: &[u32], order: &[u32], mounts: &[u32]) -> bool
-    ensures { result
-        ≡ (leb (reply_length * n) (length replies.now) && (leb n (length order.now) && leb 1 (length mounts.now))) }
+// Whether the runs that have room for each id are long enough for a batch of `n` ids.
+fn fits(n: usize, replies: &[u32], order: &[u32]) -> bool
+    ensures { result ≡ (leb (reply_length * n) (length replies.now) && leb n (length order.now)) }
 {
-    n <= replies.len() / REPLY_LENGTH && n <= order.len() && 1 <= mounts.len()
+    n <= replies.len() / REPLY_LENGTH && n <= order.len()
 }
 
 // Stores the reply to each of the first `n` ids.
@@ -65,9 +64,12 @@ pub fn lookup_batch(
         ≡ (after_batch table.old medium.now tenant ids.now replies.old order.old
         mounts.old).mounts }
 {
-    if !fits(ids.len(), replies, order, mounts) {
+    if !fits(ids.len(), replies, order) {
         return encoding::TOO_SHORT;
     }
+    let Some(mount) = mounts.first_mut() else {
+        return encoding::TOO_SHORT;
+    };
     let Some(words) = table.first_chunk_mut() else {
         return encoding::TOO_SHORT;
     };
@@ -76,7 +78,7 @@ pub fn lookup_batch(
         Ok(batch) => {
             store_replies(&batch, ids.len(), replies);
             store_front(&batch.order[..ids.len()], order);
-            mounts[0] = batch.mounts as u32;
+            *mount = batch.mounts as u32;
             call_words::count_opened(words, tenant, batch.opened());
             0
         }
