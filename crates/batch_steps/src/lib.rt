@@ -56,8 +56,8 @@ pub fn step_all(
     requires of_the_table { server.now.capacity ≡ table.now.shape.capacity }
     requires by_index { (i : ℕ) → i < length ids.now.all.now → nth (columns_of parts.old).opened i ≤ max_servers }
     ensures { columns_of parts.new
-        ≡ stepped_all (read_p (table_of table.now) server.now.number) table.now.shape server.now.used server.now.medium.now ids.now.all.now
-        server.now.number (columns_of parts.old) }
+        ≡ stepped_all (read_p (table_of table.now) server.now.number) table.now.shape server.now.used server.now.medium.now
+        ids.now.all.now server.now.number (columns_of parts.old) }
 {
     for (i, id) in ids.all.iter().enumerate() {
         let answer = &mut parts.answers[i];
