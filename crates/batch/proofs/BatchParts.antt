@@ -7,10 +7,12 @@ use mathlib.Core.Bool.{Bool, true, false}
 use mathlib.Core.List.{List}
 use native.Mathlib.Omega.{arith}
 use lib.ListN.{length, replicate, take, length-replicate}
+use Rattle.std.specs.Prelude.{Ok, All}
 use Rattle.std.proofs.lemmas.List.{get_or-take}
+use Rattle.std.proofs.lemmas.List.Elements.{All-from_get_or}
 use lib.Seq.{sets}
-use lib.Dec.{eqb}
-use borrow.Author.Tests.{eqb-true, eqb-false, lt-ltb, le-ltb}
+use lib.Dec.{eqb, ltb}
+use borrow.Author.Tests.{eqb-true, eqb-false, lt-ltb, le-ltb, ltb-true, ltb-false}
 use Rattle.lists.specs.Below.{nth, some_below, count_below}
 use Rattle.lists.proofs.Tests.{by_bool}
 use Rattle.lists.proofs.Below.{length-set_below, set_below-at, set_below-above, some_below-none, some_below-cong, count_below-none, count_below-le, nth-zeros}
@@ -24,9 +26,12 @@ use Rattle.lookup.specs.Lookup.{lookup_reply}
 use Rattle.checks.proofs.Passed.{Ready, ready-accepted}
 use Rattle.batch_answer.specs.Answer.{BatchReply, mounts, order, filled, batch_by, too_long, refused_batch, settled_batch}
 use Rattle.batch_answer.specs.Ends.{Ends}
-use Rattle.batch_begin.specs.Begin.{Columns, first_refusal, first_parts}
+use Rattle.replies.specs.declared.LookupAnswer.{LookupAnswer}
+use Rattle.batch_begin.specs.declared.Parts.{Parts}
+use Rattle.batch_begin.specs.Begin.{Columns, columns_of, first_refusal, first_parts}
 use Rattle.batch.specs.Batch.{lookup_opens, opened_at, batch_rows, long_number, batch_reply}
 use Rattle.batch_steps.specs.Steps.{Progress, progress_at, with_parts, stepped_at, stepped_all}
+use Rattle.batch_steps.proofs.Stepping.{opened-read}
 use Rattle.batch_answer.proofs.EndsFront.{length-front, front-some, front-ends}
 use Rattle.batch_answer.proofs.Filled.{filled_is}
 use Rattle.batch_answer.proofs.Orders.{mounts-few, order-none}
@@ -125,9 +130,21 @@ module _ (t : Table) (m : List ℕ) (tenant : ℕ) (ids : List ℕ) where
   front-long : {k : ℕ} (parts : Columns) → PartsFrom k parts → n ≤ length parts.ends
   front-long parts d = omega (arith, d.few, d.long.3)
 
-  -- no id has had more servers opened than there are
-  pub opened-few : (k : ℕ) (parts : Columns) → PartsFrom k parts → t.count ≤ 256 → (i : ℕ) → i < n → nth parts.opened i ≤ 256
-  opened-few k parts d c i b = omega (arith, (d.part i b).tally.counted, count_below-le (lookup_opens t m tenant (nth ids i)) t.count)
+  -- a single lookup opens no more servers than there may be
+  opens-few : (id : ℕ) → count_below (lookup_opens t m tenant id) t.count ≤ 256
+  opens-few id = by_bool (eqb (first_of (ready_rows t m false false)) 0)
+      (λ e. omega (arith, (ready-accepted t m false false (eqb-true _ 0 e)).inside.few, count_below-le (lookup_opens t m tenant id) t.count))
+      (λ e. omega (arith, count_below-none (lookup_opens t m tenant id) t.count (λ k b. refused-opens t m tenant id (eqb-false _ 0 e) k)))
+
+  -- and no id has had more opened
+  pub opened-few : (k : ℕ) (parts : Columns) → PartsFrom k parts → (i : ℕ) → nth parts.opened i ≤ 256
+  opened-few k parts d i = by_bool (ltb i n)
+      (λ e. omega (arith, (d.part i (ltb-true i n e)).tally.counted, opens-few (nth ids i)))
+      (λ e. omega (arith, (d.rest i (ltb-false i n e)).2))
+
+  pub answers-few : (k : ℕ) (parts : Parts) → PartsFrom k (columns_of parts) → All (λ (a : LookupAnswer). a.opened ≤ 256) parts.answers
+  answers-few k parts d = All-from_get_or (λ (a : LookupAnswer). a.opened ≤ 256) parts.answers (record { value = Ok 0; opened = 0 })
+      (λ i l. omega (arith, opened-read parts i, opened-few k (columns_of parts) d i))
 
   -- all servers are done: the arrays are those of the single lookups
   module _ (parts : Columns) (done : PartsFrom 0 parts) where

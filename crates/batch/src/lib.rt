@@ -2,16 +2,17 @@
 // that it is read for. The table counts for the tenant what single lookups would.
 #![tactic(auto)]
 
-ghost use Rattle.std.specs.Prelude.{◌≡◌, cond, ◌==◌, Ok};
+ghost use Rattle.std.specs.Prelude.{◌≡◌, ◌≤◌, cond, ◌==◌, All};
+ghost use Rattle.limits.specs.Limits.{max_servers};
 ghost use Rattle.table.specs.Parts.{table_of};
 ghost use Rattle.replies.specs.Reply.{number_of, check_number};
-ghost use Rattle.batch_answer.specs.Answer.{reply_of_batch};
+ghost use Rattle.batch_answer.specs.Answer.{reply_of_batch, refusals_of, values_of, opened_of};
 ghost use Rattle.batch.specs.Batch.{long_number, batch_reply, batch_table};
 
 use batch_answer::{Batch, UNANSWERED};
 use batch_begin::Parts;
 use draws::Steps;
-use limits::MAX_IDS;
+use limits::{Few, Ids, MAX_IDS};
 use replies::Refusal;
 use scan::Server;
 use table::{Table, View};
@@ -31,16 +32,23 @@ fn refuse_list(table: &View<'_>) -> Refusal
 fn searched(ready: &Result<(), Refusal>, count: usize) -> usize
     ensures { result ≡ cond (check_number ready.now == 0) count 0 }
 {
-    match ready {
-        Ok(()) => count,
-        Err(_) => 0,
-    }
+    if ready.is_ok() { count } else { 0 }
 }
 
 // The answer to a batch, by its parts after all servers. It stands apart for speed: a function fills with zeros, at each call, all
 // arrays that it has, and in so small a function the compiler sees that they are stored whole before they are read.
+#[tactic(auto, unfolding(batch_answer::specs::Answer::reply_of_batch))]
 fn gathered(parts: &Parts, mounts: usize, order: [u32; MAX_IDS]) -> Result<Batch, Refusal>
-    ensures { result ≡ Ok (record { mounts = mounts; answers = parts.now.answers; order = order }) }
+    requires { All (λ a. a.opened ≤ max_servers) parts.now.answers }
+    ensures { reply_of_batch result
+        ≡ record {
+          refusal = 0;
+          mounts = mounts;
+          refusals = refusals_of parts.now.answers;
+          values = values_of parts.now.answers;
+          opened = opened_of parts.now.answers;
+          order = order;
+        } }
 {
     Ok(Batch {
         mounts,
@@ -67,10 +75,11 @@ pub fn lookup_batch_in(
     if n > MAX_IDS {
         return Err(refuse_list(table));
     }
+    let listed: Ids<'_> = Few { all: ids };
     let ready = checks::ready(table, medium, false, false);
     let servers = searched(&ready, table.shape.count);
     let steps = Steps::new();
-    batch_begin::begin(&mut parts, ready, tenant, ids);
+    batch_begin::begin(&mut parts, ready, tenant, &listed);
     let mut mounts: usize = 0;
     for k in (0..servers).rev() {
         let server = Server {
@@ -79,7 +88,7 @@ pub fn lookup_batch_in(
             used: table.used[k] as usize,
             number: k,
         };
-        batch_steps::step_all(&mut parts, table, &steps, &server, ids);
+        batch_steps::step_all(&mut parts, table, &steps, &server, &listed);
         if batch_answer::has(&parts.ends[..n], k as u16 + 1) {
             mounts += 1;
         }
@@ -87,7 +96,12 @@ pub fn lookup_batch_in(
     gathered(
         &parts,
         mounts,
-        batch_answer::order(&parts.ends[..n], servers),
+        batch_answer::order(
+            &Few {
+                all: &parts.ends[..n],
+            },
+            servers,
+        ),
     )
 }
 
@@ -102,6 +116,6 @@ pub fn lookup_batch(
     ensures table { table.new ≡ batch_table table.old medium.now tenant ids.now }
 {
     let batch = lookup_batch_in(&table.view(), medium, tenant, ids)?;
-    upkeep::add_opened(table, tenant, batch_answer::sum(&batch.answers));
+    upkeep::add_opened(table, tenant, batch.opened());
     Ok(batch)
 }

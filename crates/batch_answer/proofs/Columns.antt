@@ -1,14 +1,16 @@
 -- Columns of the answers to lookups: what a column has after an answer is stored, where it stands and how long it is.
 -- Assumes nothing.
-use Rattle.std.proofs.Common.{◌≡◌, ◌∙◌, ℕ, zero, suc, ◌∷◌, replicate, refl, ◌<◌, List, map, length, get_or, set, sum, sym, ap, arith}
+use Rattle.std.proofs.Common.{◌≡◌, ◌∙◌, ℕ, zero, suc, ◌∷◌, replicate, refl, ◌<◌, ◌≤◌, List, map, length, get_or, set, sum, sym, ap, arith}
 use Rattle.std.proofs.lemmas.List.{length-map, map-set, take_all}
 use Rattle.lists.proofs.Below.{total-le}
 use lib.ListN.{get_or-map}
+use Rattle.std.specs.Prelude.{Ok, All}
+use Rattle.std.proofs.lemmas.List.Elements.{All-get_or}
 use Rattle.lists.specs.Below.{nth, total}
 use Rattle.lists.proofs.Listed.{total-sum}
 use Rattle.replies.specs.declared.Reply.{Reply}
 use Rattle.replies.specs.declared.LookupAnswer.{LookupAnswer}
-use Rattle.replies.specs.Reply.{reply_of_lookup}
+use Rattle.replies.specs.Reply.{found_or, reply_of_lookup}
 use Rattle.replies.proofs.Distinct.{lookup_opened}
 use Rattle.batch_answer.specs.Answer.{column, opened_of}
 
@@ -46,6 +48,12 @@ module _ (answers : List LookupAnswer) (long : length answers ≡ 256) where
       let whole : 256 ≡ length (opened_of answers) = omega (arith, length-column (λ r. r.opened) answers, long) in
       rw opened_map (sym (total-sum (opened_of answers) 256 (omega (arith, whole)) ∙ ap sum (take_all 256 (opened_of answers) (omega (arith, whole)))))
 
-  -- they are 32-bit numbers, so that their sum fits
-  pub sum_fits : ((i : ℕ) → i < 256 → nth (opened_of answers) i < 4294967296) → sum (map opened answers) < 18446744073709551616
-  sum_fits small = omega (arith, opened_sum, total-le (nth (opened_of answers)) 4294967295 256 (λ i l. omega (arith, small i l)))
+  -- each is that of at most 256 servers, so that their sum fits
+  pub sum_fits : All (λ (a : LookupAnswer). a.opened ≤ 256) answers → sum (map opened answers) < 18446744073709551616
+  unfolding reply_of_lookup found_or
+  sum_fits few = omega (arith, opened_sum, total-le (nth (opened_of answers)) 256 256 at-most)
+    where
+      at-most : (i : ℕ) → i < 256 → nth (opened_of answers) i ≤ 256
+      at-most i l =
+          let d : LookupAnswer = record { value = Ok 0; opened = 0 } in
+          omega (arith, column-at (λ r. r.opened) answers i d refl, lookup_opened (get_or answers i d), All-get_or (λ (a : LookupAnswer). a.opened ≤ 256) answers i d (omega (arith, long)) few)

@@ -1,13 +1,12 @@
 // The parts of a batch, one for each id, and what they are before any server is opened. This crate knows no table and no medium.
 #![tactic(auto)]
 
-ghost use Rattle.std.specs.Prelude.{◌≡◌, ◌≤◌, length};
-ghost use Rattle.limits.specs.Limits.{max_ids};
+ghost use Rattle.std.specs.Prelude.{◌≡◌, length};
 ghost use Rattle.replies.specs.Reply.{number_of, check_number};
 ghost use Rattle.batch_begin.specs.Begin.{columns_of, first_refusal, first_parts};
 
 use batch_answer::UNANSWERED;
-use limits::MAX_IDS;
+use limits::{Ids, MAX_IDS};
 use replies::{LookupAnswer, Refusal};
 
 // How far the lookups of all ids are, in the order of the ids. An answer is `NotFound` while no entry was met, which it stays
@@ -39,13 +38,12 @@ fn first_refusal(ready: Result<(), Refusal>, tenant: u32, id: u32) -> Refusal
 
 // Makes every id's part what it is before any server is opened, by what the tests say of an id in range that is the caller's own.
 // The parts are lent, since parts that are returned are copied: a batch of one id takes 17,700 instructions so, and took 26,900.
-pub fn begin(parts: &mut Parts, ready: Result<(), Refusal>, tenant: u32, ids: &[u32])
-    requires { length ids.now ≤ max_ids }
-    ensures { columns_of parts.new ≡ first_parts (check_number ready) tenant ids.now (length ids.now) }
+pub fn begin(parts: &mut Parts, ready: Result<(), Refusal>, tenant: u32, ids: &Ids<'_>)
+    ensures { columns_of parts.new ≡ first_parts (check_number ready) tenant ids.now.all.now (length ids.now.all.now) }
 {
     parts.answers.fill(UNANSWERED);
     parts.ends.fill(0);
-    for (i, id) in ids.iter().enumerate() {
+    for (i, id) in ids.all.iter().enumerate() {
         parts.answers[i] = LookupAnswer {
             value: Err(first_refusal(ready, tenant, *id)),
             opened: 0,

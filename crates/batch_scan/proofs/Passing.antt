@@ -6,43 +6,16 @@ use mathlib.Core.Bool.{Bool, true, false, cond, not, ◌&&◌, and-true, and-fal
 use mathlib.Core.List.{List}
 use Rattle.std.specs.Prelude.{Option, None, Some}
 use native.Mathlib.Omega.{arith}
-use lib.ListN.{length, set}
-use Rattle.std.proofs.lemmas.List.{length-set}
-use lib.Seq.{get_or-set_same, get_or-set_other}
+use lib.ListN.{length}
 use lib.Dec.{eqb}
-use borrow.Author.Tests.{eqb-true, eqb-false, eq-eqb}
+use borrow.Author.Tests.{eqb-true, eq-eqb}
 use Rattle.lists.specs.Below.{nth, highest, some_below}
-use Rattle.lists.proofs.Tests.{by_bool, true-not-false, at-or-else}
+use Rattle.lists.proofs.Tests.{by_bool, true-not-false}
 use Rattle.lists.proofs.Below.{highest-last, highest-cong, highest-below, some_below-out}
 use Rattle.medium.specs.Word.{blank}
 use Rattle.medium.specs.Entry.{entry_words, mark_place, server_at, entry_at, bears_at, live}
 use Rattle.medium.proofs.Entries.{live_below}
 use Rattle.batch_scan.specs.Scan.{slot_of, is_set, Covers, met_by, met_or, newest_at, Met, bearing, Passed, NewestOf}
-
--- one slot more is set
-pub covers_more : (filter ids : List ℕ) (n : ℕ) → Covers filter ids n → (s : ℕ) → s ≡ slot_of (nth ids n) → s < length filter → Covers (set filter s 1) ids (n + 1)
-covers_more filter ids n c s e l = record {
-  set_at = λ i b. at-or-else (λ (t : ℕ). nth (set filter s 1) t ≡ 1) s (slot_of (nth ids i))
-      (get_or-set_same filter s 1 0 l)
-      (λ d. get_or-set_other filter s (slot_of (nth ids i)) 1 0 d ∙ c.set_at i (below i b d));
-}
-  where
-    below : (i : ℕ) → i < n + 1 → (slot_of (nth ids i) ≡ s → ⊥) → i < n
-    below i b d = by_bool (eqb i n) (λ h. absurd (d (ap (λ (k : ℕ). slot_of (nth ids k)) (eqb-true i n h) ∙ sym e))) (λ h. omega (arith, eqb-false i n h))
-
--- nothing is met for no id, and one id more, for which an entry is met or not
-pub met_none : (word entry : ℕ) (ids : List ℕ) (x : List (Option ℕ)) → Met word entry ids 0 x x
-met_none word entry ids x = record { long = refl; each = λ i l. absurd (omega arith); rest = λ i l. refl }
-
-pub meet-more : (word entry : ℕ) (ids : List ℕ) (x₀ x : List (Option ℕ)) (n : ℕ) (r : Option ℕ) → Met word entry ids n x₀ x → n < length x
-    → r ≡ met_by (eqb word (nth ids n)) entry (newest_at x n) → Met word entry ids (n + 1) x₀ (set x n r)
-meet-more word entry ids x₀ x n r met l e = record {
-  long = length-set x n r ∙ met.long;
-  each = λ i b. by_bool (eqb i n)
-      (λ d. rw (eqb-true i n d) (get_or-set_same x n r None l ∙ e ∙ ap (met_by (eqb word (nth ids n)) entry) (met.rest n (omega arith))))
-      (λ d. get_or-set_other x n i r None (λ q. omega (arith, eqb-false i n d)) ∙ met.each i (omega (arith, eqb-false i n d)));
-  rest = λ i b. get_or-set_other x n i r None (λ q. omega arith) ∙ met.rest i (omega arith);
-}
 
 -- an entry that bears the id is met if none was met before
 met_next : (b : Bool) (entry : ℕ) (newest left : Option ℕ) → met_or (met_by b entry newest) left ≡ met_or newest (cond b (Some entry) left)
@@ -63,10 +36,7 @@ unfolding is_set
 set-where filter ids n c i l word e = rw (eqb-true word (nth ids i) e, c.set_at i l)
 
 module _ (m : List ℕ) (base : ℕ) (ids : List ℕ) (n : ℕ) where
-  -- nothing is passed yet, and one stretch after another
-  pub passed_none : (j : ℕ) (x : List (Option ℕ)) → Passed m base ids n j j x x
-  passed_none j x = record { long = refl; each = λ i l. refl }
-
+  -- one stretch after another
   pub passed_then : {low j high : ℕ} {before mid after : List (Option ℕ)} → Passed m base ids n j high before mid → Passed m base ids n low j mid after → Passed m base ids n low high before after
   passed_then p q = record { long = q.long ∙ p.long; each = λ i l. q.each i l ∙ p.each i l }
 

@@ -3,12 +3,12 @@
 #![tactic(auto)]
 
 ghost use Rattle.std.specs.Prelude.{◌≡◌, ◌+◌, ◌*◌, ◌≤◌, length, eqb};
-ghost use Rattle.limits.specs.Limits.{max_ids, max_capacity};
+ghost use Rattle.limits.specs.Limits.{max_capacity};
 ghost use Rattle.lists.specs.Below.{nth, some_below};
 ghost use Rattle.medium.specs.Entry.{entry_words};
 ghost use Rattle.batch_scan.specs.Scan.{slots, slot_of, block, is_set, Covers, met_by, Met, Passed, NewestOf};
 
-use limits::MAX_IDS;
+use limits::{Ids, MAX_IDS};
 use medium::{BLANK, ENTRY_WORDS, MARK_PLACE};
 use scan::Server;
 
@@ -34,19 +34,6 @@ fn fill(filter: &mut [u8; SLOTS], ids: &[u32])
     }
 }
 
-// Whether the slot of one of the entries of a block is set. The block begins at an address. It looks at every entry, whatever it finds,
-// since an early exit is a branch for each.
-fn touches(filter: &[u8; SLOTS], medium: &[u32], at: usize) -> bool
-    requires { at + entry_words * block ≤ length medium.now }
-    ensures { result ≡ some_below (λ j. is_set filter.now (nth medium.now (at + entry_words * j))) block }
-{
-    let mut seen = false;
-    for j in 0..BLOCK {
-        seen |= filter[slot(medium[at + ENTRY_WORDS * j])] != 0;
-    }
-    seen
-}
-
 // What an id's newest entry so far becomes at an entry that has no mark: the entry is met if it bears the id and none was met before.
 #[tactic(auto, unfolding(crate::specs::Scan::met_by))]
 fn meet_one(word: u32, id: u32, newest: Option<u32>, entry: u32) -> Option<u32>
@@ -57,76 +44,95 @@ fn meet_one(word: u32, id: u32, newest: Option<u32>, entry: u32) -> Option<u32>
 }
 
 // Meets an entry without a mark, which has this id's word, for each of the ids.
-fn meet(newest: &mut [Option<u32>; MAX_IDS], ids: &[u32], word: u32, entry: u32)
-    requires { length ids.now ≤ max_ids }
-    ensures { Met word entry ids.now (length ids.now) newest.old newest.new }
+fn meet(newest: &mut [Option<u32>; MAX_IDS], ids: &Ids<'_>, word: u32, entry: u32)
+    ensures { Met word entry ids.now.all.now (length ids.now.all.now) newest.old newest.new }
 {
-    for (i, id) in ids.iter().enumerate() {
+    for (i, id) in ids.all.iter().enumerate() {
         newest[i] = meet_one(word, *id, newest[i], entry);
     }
 }
 
-// Passes the entries from `high` down to `low` of the server that begins at an address. An entry whose slot is not set bears none of
-// the ids, and an entry with a mark is none's.
-fn pass(
-    newest: &mut [Option<u32>; MAX_IDS],
-    filter: &[u8; SLOTS],
-    ids: &[u32],
-    medium: &[u32],
-    base: usize,
-    low: usize,
-    high: usize,
-)
-    requires ids_len_bound { length ids.now ≤ max_ids }
-    requires covers { Covers filter.now ids.now (length ids.now) }
-    requires low_le_high { (low ≤ high) × (high ≤ max_capacity) }
-    requires high_in_bounds { base + entry_words * high ≤ length medium.now }
-    ensures { Passed medium.now base ids.now (length ids.now) low high newest.old newest.new }
-{
-    for j in (low..high).rev() {
-        let at = base + ENTRY_WORDS * j;
-        let word = medium[at];
-        if (filter[slot(word)] != 0) & (medium[at + MARK_PLACE] == BLANK) {
-            meet(newest, ids, word, j as u32);
-        }
-    }
+// The ids that a pass is for, and a filter that has their slots set.
+#[derive(Drop)]
+struct Sought<'a> {
+    ids: &'a Ids<'a>,
+    filter: &'a [u8; SLOTS],
+    ghost covers: { Covers filter.now ids.now.all.now (length ids.now.all.now) },
 }
 
-// Passes all entries, a block at a time: where no slot of a block is set nothing is to be met there. The entries below the lowest
-// whole block come last.
-fn pass_all(
-    newest: &mut [Option<u32>; MAX_IDS],
-    filter: &[u8; SLOTS],
-    ids: &[u32],
-    medium: &[u32],
-    base: usize,
-    used: usize,
-)
-    requires ids_len_bound { length ids.now ≤ max_ids }
-    requires covers { Covers filter.now ids.now (length ids.now) }
-    requires used_le_max_capacity { used ≤ max_capacity }
-    requires used_in_bounds { base + entry_words * used ≤ length medium.now }
-    ensures { Passed medium.now base ids.now (length ids.now) 0 used newest.old newest.new }
-{
-    let rest = used % BLOCK;
-    for b in (0..used / BLOCK).rev() {
-        let low = rest + BLOCK * b;
-        if touches(filter, medium, base + ENTRY_WORDS * low) {
-            pass(newest, filter, ids, medium, base, low, low + BLOCK);
+impl Sought<'_> {
+    // Whether the slot of one of the entries of a block is set. The block begins at an address. It looks at every entry, whatever it
+    // finds, since an early exit is a branch for each.
+    fn touches(&self, medium: &[u32], at: usize) -> bool
+        requires { at + entry_words * block ≤ length medium.now }
+        ensures { result ≡ some_below (λ j. is_set self.now.filter.now (nth medium.now (at + entry_words * j))) block }
+    {
+        let mut seen = false;
+        for j in 0..BLOCK {
+            seen |= self.filter[slot(medium[at + ENTRY_WORDS * j])] != 0;
+        }
+        seen
+    }
+
+    // Passes the entries from `high` down to `low` of the server that begins at an address. An entry whose slot is not set bears none
+    // of the ids, and an entry with a mark is none's.
+    fn pass(
+        &self,
+        newest: &mut [Option<u32>; MAX_IDS],
+        medium: &[u32],
+        base: usize,
+        low: usize,
+        high: usize,
+    )
+        requires low_le_high { (low ≤ high) × (high ≤ max_capacity) }
+        requires high_in_bounds { base + entry_words * high ≤ length medium.now }
+        ensures { Passed medium.now base self.now.ids.now.all.now (length self.now.ids.now.all.now) low high newest.old newest.new }
+    {
+        for j in (low..high).rev() {
+            let at = base + ENTRY_WORDS * j;
+            let word = medium[at];
+            if (self.filter[slot(word)] != 0) & (medium[at + MARK_PLACE] == BLANK) {
+                meet(newest, self.ids, word, j as u32);
+            }
         }
     }
-    pass(newest, filter, ids, medium, base, 0, rest);
+
+    // Passes all entries, a block at a time: where no slot of a block is set nothing is to be met there. The entries below the lowest
+    // whole block come last.
+    fn pass_all(
+        &self,
+        newest: &mut [Option<u32>; MAX_IDS],
+        medium: &[u32],
+        base: usize,
+        used: usize,
+    )
+        requires used_le_max_capacity { used ≤ max_capacity }
+        requires used_in_bounds { base + entry_words * used ≤ length medium.now }
+        ensures { Passed medium.now base self.now.ids.now.all.now (length self.now.ids.now.all.now) 0 used newest.old newest.new }
+    {
+        let rest = used % BLOCK;
+        for b in (0..used / BLOCK).rev() {
+            let low = rest + BLOCK * b;
+            if self.touches(medium, base + ENTRY_WORDS * low) {
+                self.pass(newest, medium, base, low, low + BLOCK);
+            }
+        }
+        self.pass(newest, medium, base, 0, rest);
+    }
 }
 
 // The newest entry of each of the ids on a server.
-pub fn newest_of(server: &Server<'_>, ids: &[u32]) -> [Option<u32>; MAX_IDS]
-    requires { length ids.now ≤ max_ids }
-    ensures { NewestOf server.now.capacity server.now.used server.now.medium.now ids.now server.now.number result }
+pub fn newest_of(server: &Server<'_>, ids: &Ids<'_>) -> [Option<u32>; MAX_IDS]
+    ensures { NewestOf server.now.capacity server.now.used server.now.medium.now ids.now.all.now server.now.number result }
 {
     let base = medium::server_at(server.capacity, server.number);
     let mut filter: [u8; SLOTS] = [0; SLOTS];
-    fill(&mut filter, ids);
+    fill(&mut filter, ids.all);
+    let sought = Sought {
+        ids,
+        filter: &filter,
+    };
     let mut newest: [Option<u32>; MAX_IDS] = [None; MAX_IDS];
-    pass_all(&mut newest, &filter, ids, server.medium, base, server.used);
+    sought.pass_all(&mut newest, server.medium, base, server.used);
     newest
 }

@@ -2,7 +2,7 @@
 #![tactic(auto)]
 
 ghost use Rattle.std.specs.Prelude.{◌≡◌, ℕ, ◌≤◌, ◌<◌, length};
-ghost use Rattle.limits.specs.Limits.{max_servers, max_ids};
+ghost use Rattle.limits.specs.Limits.{max_servers};
 ghost use Rattle.lists.specs.Below.{nth};
 ghost use Rattle.table.specs.Parts.{table_of, read_p};
 ghost use Rattle.batch_begin.specs.Begin.{columns_of};
@@ -10,6 +10,7 @@ ghost use Rattle.batch_steps.specs.Steps.{progress_of, stepped, stepped_all};
 
 use batch_begin::Parts;
 use draws::Steps;
+use limits::Ids;
 use replies::{LookupAnswer, Refusal};
 use scan::Server;
 use table::View;
@@ -50,16 +51,15 @@ pub fn step_all(
     table: &View<'_>,
     steps: &Steps,
     server: &Server<'_>,
-    ids: &[u32],
+    ids: &Ids<'_>,
 )
     requires of_the_table { server.now.capacity ≡ table.now.shape.capacity }
-    requires ids_len_bound { length ids.now ≤ max_ids }
-    requires by_index { (i : ℕ) → i < length ids.now → nth (columns_of parts.old).opened i ≤ max_servers }
+    requires by_index { (i : ℕ) → i < length ids.now.all.now → nth (columns_of parts.old).opened i ≤ max_servers }
     ensures { columns_of parts.new
-        ≡ stepped_all (read_p (table_of table.now) server.now.number) table.now.shape server.now.used server.now.medium.now ids.now
-        server.now.number (columns_of parts.old) }
+        ≡ stepped_all (read_p (table_of table.now) server.now.number) table.now.shape server.now.used server.now.medium.now
+        ids.now.all.now server.now.number (columns_of parts.old) }
 {
-    for (i, id) in ids.iter().enumerate() {
+    for (i, id) in ids.all.iter().enumerate() {
         let answer = &mut parts.answers[i];
         step(answer, &mut parts.ends[i], table, steps, server, *id);
     }

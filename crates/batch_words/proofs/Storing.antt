@@ -2,7 +2,7 @@
 -- Assumes nothing.
 use Prim.Native.Nat.{ℕ, zero, suc, ◌*◌, ◌≤◌, ◌<◌}
 use mathlib.Core.Path.{◌≡◌, refl, sym, ap, ap₂, ◌∙◌}
-use mathlib.Core.Bool.{Bool, true, false, not, ◌&&◌}
+use mathlib.Core.Bool.{Bool, true, false, not, ◌&&◌, and-false}
 use mathlib.Core.List.{List}
 use native.Mathlib.Omega.{arith}
 use lib.ListN.{length, set, get_or, take}
@@ -12,7 +12,7 @@ use borrow.Author.Tests.{le-leb, lt-leb, leb-true, ltb-false, eqb-true, eqb-fals
 use Rattle.limits.specs.Limits.{max_ids}
 use Rattle.lists.specs.Below.{nth, total, set_below}
 use Rattle.lists.proofs.Tests.{and_l, and_r, by_bool}
-use Rattle.lists.proofs.Below.{set_below-cong}
+use Rattle.lists.proofs.Below.{set_below-cong, set-nth}
 use Rattle.table.specs.declared.Table.{Table}
 use Rattle.table.specs.Sound.{sound}
 use Rattle.table_words.specs.Words.{table_length, table_from, with_table}
@@ -22,7 +22,9 @@ use Rattle.replies.specs.declared.Refusal.{Refusal}
 use Rattle.replies.specs.declared.LookupAnswer.{LookupAnswer}
 use Rattle.replies.specs.Reply.{number_of, found_or, reply_of_lookup}
 use Rattle.replies.proofs.Answers.{number-not-zero}
-use Rattle.std.specs.Prelude.{Result, Ok, Err}
+use Rattle.std.specs.Prelude.{Result, Ok, Err, All}
+use Rattle.std.proofs.lemmas.List.Elements.{All-get_or, All-take}
+use Rattle.replies.proofs.Distinct.{lookup_opened}
 use Rattle.batch_answer.proofs.Columns.{column-at}
 use Rattle.batch.proofs.Counting.{counted-whole}
 use Rattle.replies.specs.Refusal.{first_of}
@@ -34,42 +36,47 @@ use Rattle.batch_answer.specs.Answer.{BatchReply, opened_of, reply_of_batch, ord
 use Rattle.batch_answer.proofs.Filled.{filled_at}
 use Rattle.batch_answer.proofs.Orders.{mounts-few}
 use Rattle.batch.specs.Batch.{opened_at, batch_rows, batch_reply}
-use Rattle.archive.proofs.Small.{lookup-small}
 use Rattle.encoding.specs.Encoding.{reply_length, too_short, with_reply}
 use Rattle.replay.specs.Replay.{with_replies}
 use Rattle.batch_words.specs.BatchWords.{fits_batch, batch_stored, after_batch, lookup_part}
 
--- whether the runs are long enough, by the length of the table and by the test of the others
+-- whether the runs are long enough, by the lengths of the table and of the mounts and by the test of the others
 module _ (n : ℕ) (table replies order mounts : List ℕ) where
   abbrev pub Others : Bool → Type 0
-  Others b = (leb (reply_length * n) (length replies) && (leb n (length order) && leb 1 (length mounts))) ≡ b
+  Others b = (leb (reply_length * n) (length replies) && leb n (length order)) ≡ b
 
   pub no_table : length table < table_length → false ≡ fits_batch n table replies order mounts
   unfolding fits_batch
   no_table l = rw (lt-leb _ _ l)
 
+  pub no_mounts : length mounts < 1 → false ≡ fits_batch n table replies order mounts
+  unfolding fits_batch
+  no_mounts l = rw (lt-leb 1 (length mounts) l, and-false (leb n (length order)), and-false (leb (reply_length * n) (length replies)), and-false (leb table_length (length table)))
+
   pub no_room : Others false → false ≡ fits_batch n table replies order mounts
   unfolding fits_batch
-  no_room e = rw e (by_bool (leb table_length (length table)) (λ y. rw y) (λ z. rw z))
-
-  pub room : table_length ≤ length table → Others true → true ≡ fits_batch n table replies order mounts
-  unfolding fits_batch
-  room l e = rw (le-leb _ _ l, e)
+  no_room e = by_bool (leb (reply_length * n) (length replies))
+      (λ r. let o : leb n (length order) ≡ false = rw r at e in rw (r, o, and-false (leb table_length (length table))))
+      (λ r. rw (r, and-false (leb table_length (length table))))
 
   -- what follows where the others are
   pub record Fits : Type 0 where
     pub has_replies : reply_length * n ≤ length replies
     pub has_order : n ≤ length order
-    pub has_mounts : 1 ≤ length mounts
 
   pub long-runs : Others true → Fits
-  long-runs e =
-      let two = and_r (leb (reply_length * n) (length replies)) _ e in
-      record {
-        has_replies = leb-true _ _ (and_l (leb (reply_length * n) (length replies)) _ e);
-        has_order = leb-true _ _ (and_l (leb n (length order)) _ two);
-        has_mounts = leb-true _ _ (and_r (leb n (length order)) _ two);
-      }
+  long-runs e = record {
+    has_replies = leb-true _ _ (and_l (leb (reply_length * n) (length replies)) _ e);
+    has_order = leb-true _ _ (and_r (leb (reply_length * n) (length replies)) _ e);
+  }
+
+  pub room : table_length ≤ length table → 1 ≤ length mounts → Others true → true ≡ fits_batch n table replies order mounts
+  unfolding fits_batch
+  room l k e = rw (le-leb _ _ l, le-leb _ _ k, le-leb _ _ (long-runs e).has_replies, le-leb _ _ (long-runs e).has_order)
+
+-- the mounts' first word is stored as it was
+pub mount-kept : (mounts : List ℕ) {mount : ℕ} → mount ≡ nth mounts 0 → set mounts 0 mount ≡ mounts
+mount-kept mounts e = ap (set mounts 0) e ∙ set-nth mounts 0
 
 -- the answer to a list that is not refused
 module _ (t : Table) (m : List ℕ) (tenant : ℕ) (ids : List ℕ) (a : BatchReply) (is : a ≡ batch_reply t m tenant ids) where
@@ -139,27 +146,6 @@ module _ (t : Table) (m : List ℕ) (tenant : ℕ) (ids : List ℕ) {a : Result 
       let w = sym (column-at (λ (r : Reply). r.opened) b.answers i d refl) ∙ s.opened in
       λ k. record { refusal = x k; server = (q.0 ∙ sym p.server) k; value = y k; opened = w k; invalidated = (q.1 ∙ sym p.invalidated) k }
 
-  -- the answers to the ids alone, without those that come after them in the array
-  module _ (long : length b.answers ≡ 256) where
-    abbrev front : List LookupAnswer
-    front = take (length ids) b.answers
-
-    pub length-front : length front ≡ length ids
-    length-front = length-take-le (length ids) b.answers (omega (arith, long, few-ids))
-
-    front-part : (i : ℕ) → i < length ids → lookup_part front i ≡ lookup_part b.answers i
-    unfolding lookup_part
-    front-part i l = ap reply_of_lookup (get_or-take (length ids) b.answers i (record { value = Ok 0; opened = 0 }) l)
-
-    pub parts-are : (i : ℕ) → i < length front → lookup_part front i ≡ lookup_reply t m tenant (nth ids i)
-    parts-are i l = front-part i (omega (arith, length-front)) ∙ part-is i (omega (arith, length-front))
-
-    pub opened-small : (i : ℕ) → i < length front → nth (opened_of front) i < 4294967296
-    unfolding lookup_part reply_of_lookup found_or
-    opened-small i l =
-        let same = column-at (λ (r : Reply). r.opened) front i (record { value = Ok 0; opened = 0 }) refl ∙ ap (λ (r : Reply). r.opened) (parts-are i l) in
-        omega (arith, (lookup-small t m tenant (nth ids i)).opened, same)
-
   pub mounts-small : t.count < 4294967296 → b.mounts < 4294967296
   unfolding reply_of_batch
   mounts-small l = few-mounts t m tenant ids _ answered no_refusal l
@@ -197,30 +183,31 @@ module _ (table m : List ℕ) (tenant : ℕ) (ids replies order mounts : List �
     unfolding batch_stored reply_of_batch
     batch-refused {r} f = rw (stored, f, ne_eqb (number_of r) 0 (number-not-zero r)) (refl, (refl, (refl, (refl, refl))))
 
-    pub batch-done : {b : Batch} → a ≡ Ok b → length b.answers ≡ 256 → length b.order ≡ 256 → (opened : ℕ) → opened ≡ total (nth (opened_of b.answers)) max_ids → (table' replies' order' mounts' : List ℕ)
+    pub batch-done : {b : Batch} → a ≡ Ok b → length b.order ≡ 256 → (opened : ℕ) → opened ≡ total (nth (opened_of b.answers)) max_ids → (table' replies' order' mounts' : List ℕ)
         → table' ≡ with_table table (with_opened (table_from table) tenant opened)
-        → replies' ≡ with_replies (lookup_part (take (length ids) b.answers)) (length (take (length ids) b.answers)) replies → order' ≡ set_below (nth (take (length ids) b.order)) (length (take (length ids) b.order)) order → mounts' ≡ set mounts 0 b.mounts
+        → replies' ≡ with_replies (lookup_part b.answers) (length ids) replies → order' ≡ set_below (nth (take (length ids) b.order)) (length (take (length ids) b.order)) order → mounts' ≡ set mounts 0 b.mounts
         → Done table m tenant ids replies order mounts 0 table' replies' order' mounts'
     unfolding batch_stored reply_of_batch
-    batch-done {b} f long wide opened o table' replies' order' mounts' t x y w =
+    batch-done {b} f wide opened o table' replies' order' mounts' t x y w =
         let s = counted-whole (table_from table) m tenant ids is f o in
-        let parts-same : with_replies (lookup_part (take (length ids) b.answers)) (length (take (length ids) b.answers)) replies ≡ with_replies (λ i. lookup_reply (table_from table) m tenant (nth ids i)) (length ids) replies =
-        replies-same _ _ _ replies (parts-are (table_from table) m tenant ids is f long) ∙ ap (λ (n : ℕ). with_replies (λ i. lookup_reply (table_from table) m tenant (nth ids i)) n replies) (length-front (table_from table) m tenant ids is f long) in
+        let parts-same : with_replies (lookup_part b.answers) (length ids) replies ≡ with_replies (λ i. lookup_reply (table_from table) m tenant (nth ids i)) (length ids) replies =
+        replies-same _ _ _ replies (part-is (table_from table) m tenant ids is f) in
         rw (stored, f)
         (refl, (t ∙ ap (with_table table) s, (x ∙ parts-same, (y ∙ front-put b.order order (length ids) (omega (arith, wide, few-ids (table_from table) m tenant ids is f)), w))))
 
--- the answer at a position
-module _ (answers : List LookupAnswer) (i : ℕ) where
+-- the answer at a position below n, read among the first n
+module _ (answers : List LookupAnswer) (n i : ℕ) (l : i < n) where
   abbrev read : LookupAnswer
-  read = get_or answers i (record { value = Ok 0; opened = 0 })
+  read = get_or (take n answers) i (record { value = Ok 0; opened = 0 })
 
   pub part-read : reply_of_lookup read ≡ lookup_part answers i
   unfolding lookup_part
-  part-read = refl
+  part-read = ap reply_of_lookup (get_or-take n answers i (record { value = Ok 0; opened = 0 }) l)
 
-  pub read-fits : nth (opened_of answers) i < 4294967296
+  pub read-fits : All (λ (a : LookupAnswer). a.opened ≤ 256) answers → i < length (take n answers)
       → ((reply_of_lookup read).server < 4294967296) × ((reply_of_lookup read).opened < 4294967296) × ((reply_of_lookup read).invalidated < 4294967296)
   unfolding reply_of_lookup found_or
-  read-fits s =
+  read-fits few b =
+      let d : LookupAnswer = record { value = Ok 0; opened = 0 } in
       let p = answer-plain read.value read.opened in
-      (omega (arith, p.0), omega (arith, column-at (λ (r : Reply). r.opened) answers i (record { value = Ok 0; opened = 0 }) refl, s), omega (arith, p.1))
+      (omega (arith, p.0), omega (arith, lookup_opened read, All-get_or (λ (a : LookupAnswer). a.opened ≤ 256) (take n answers) i d b (All-take (λ (a : LookupAnswer). a.opened ≤ 256) n answers few)), omega (arith, p.1))

@@ -1,31 +1,30 @@
 // A batch of lookups on a table lent as words, its answer stored as words.
 #![tactic(auto)]
 
-ghost use Rattle.std.specs.Prelude.{◌≡◌, ℕ, ◌&&◌, ◌≤◌, ◌<◌, ◌*◌, length, leb};
+ghost use Rattle.std.specs.Prelude.{◌≡◌, ◌&&◌, ◌≤◌, ◌*◌, length, leb};
+ghost use Rattle.limits.specs.Limits.{max_ids};
 ghost use Rattle.lists.specs.Below.{nth, set_below};
-ghost use Rattle.batch_answer.specs.Answer.{opened_of};
 ghost use Rattle.encoding.specs.Encoding.{reply_length};
 ghost use Rattle.replay.specs.Replay.{with_replies};
 ghost use Rattle.batch_words.specs.BatchWords.{lookup_part, after_batch};
 
+use batch_answer::Batch;
 use encoding::REPLY_LENGTH;
-use replies::LookupAnswer;
 
-// Whether the runs besides the table are long enough for a batch of `n` ids.
-fn fits(n: usize, replies: &[u32], order: &[u32], mounts: &[u32]) -> bool
-    ensures { result
-        ≡ (leb (reply_length * n) (length replies.now) && (leb n (length order.now) && leb 1 (length mounts.now))) }
+// Whether the runs that have room for each id are long enough for a batch of `n` ids.
+fn fits(n: usize, replies: &[u32], order: &[u32]) -> bool
+    ensures { result ≡ (leb (reply_length * n) (length replies.now) && leb n (length order.now)) }
 {
-    n <= replies.len() / REPLY_LENGTH && n <= order.len() && 1 <= mounts.len()
+    n <= replies.len() / REPLY_LENGTH && n <= order.len()
 }
 
-// Stores the reply to each id.
-fn store_replies(answers: &[LookupAnswer], replies: &mut [u32])
-    requires answers_in_bounds { reply_length * length answers.now ≤ length replies.old }
-    requires by_index { (i : ℕ) → i < length answers.now → nth (opened_of answers.now) i < 4294967296 }
-    ensures { replies.new ≡ with_replies (lookup_part answers.now) (length answers.now) replies.old }
+// Stores the reply to each of the first `n` ids.
+fn store_replies(batch: &Batch, n: usize, replies: &mut [u32])
+    requires few { n ≤ max_ids }
+    requires room { reply_length * n ≤ length replies.old }
+    ensures { replies.new ≡ with_replies (lookup_part batch.now.answers) n replies.old }
 {
-    for (i, answer) in answers.iter().enumerate() {
+    for (i, answer) in batch.answers[..n].iter().enumerate() {
         encoding::store(replies, REPLY_LENGTH * i, replies::lookup_reply(*answer));
     }
 }
@@ -65,19 +64,22 @@ pub fn lookup_batch(
         ≡ (after_batch table.old medium.now tenant ids.now replies.old order.old
         mounts.old).mounts }
 {
-    if !fits(ids.len(), replies, order, mounts) {
+    if !fits(ids.len(), replies, order) {
         return encoding::TOO_SHORT;
     }
+    let Some(mount) = mounts.first_mut() else {
+        return encoding::TOO_SHORT;
+    };
     let Some(words) = table.first_chunk_mut() else {
         return encoding::TOO_SHORT;
     };
     match batch::lookup_batch_in(&table_words::view_of(words), medium, tenant, ids) {
         Err(refusal) => refusal.number(),
-        Ok(ref batch) => {
-            store_replies(&batch.answers[..ids.len()], replies);
+        Ok(batch) => {
+            store_replies(&batch, ids.len(), replies);
             store_front(&batch.order[..ids.len()], order);
-            mounts[0] = batch.mounts as u32;
-            call_words::count_opened(words, tenant, batch_answer::sum(&batch.answers));
+            *mount = batch.mounts as u32;
+            call_words::count_opened(words, tenant, batch.opened());
             0
         }
     }

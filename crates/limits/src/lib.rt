@@ -4,6 +4,9 @@
 // between them, and the check shows that nothing is lost.
 #![tactic(auto)]
 
+ghost use Rattle.std.specs.Prelude.{◌≤◌, length};
+ghost use Rattle.limits.specs.Limits.{max_ids};
+
 // Servers of a table, and so the numbers in each of its columns.
 pub const MAX_SERVERS: usize = 256;
 
@@ -36,3 +39,13 @@ pub type Column = [u32; MAX_SERVERS];
 
 // The counters of opened servers, one for each tenant.
 pub type Counters = [u32; TENANTS];
+
+// What a batch has at most one of for each of its ids, as the ids themselves: so there are at most 256.
+#[derive(Drop)]
+pub struct Few<'a, T> {
+    pub all: &'a [T],
+    ghost few: { length all.now ≤ max_ids },
+}
+
+// The ids of a batch.
+pub type Ids<'a> = Few<'a, u32>;

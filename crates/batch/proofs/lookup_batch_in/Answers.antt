@@ -13,7 +13,7 @@ use Rattle.checks.specs.Ready.{ready_rows}
 use Rattle.search.proofs.Finding.{each-inside}
 use Rattle.batch_answer.specs.Answer.{refused_batch, reply_of_batch}
 use Rattle.batch_begin.specs.Begin.{Columns, columns_of}
-use Rattle.batch.proofs.BatchParts.{BatchFrom, servers, batch-refused, batch-start, mounted-few, ready-there, opened-few, batch-opened, batch-closed, ends-given, batch-done}
+use Rattle.batch.proofs.BatchParts.{BatchFrom, servers, batch-refused, batch-start, mounted-few, ready-there, opened-few, answers-few, batch-opened, batch-closed, ends-given, batch-done}
 use Rattle.batch.proofs.lookup_batch_in.Goals as goal
 
 pub returns-then-n-gt-MAX_IDS : goal.returns-then-n-gt-MAX_IDS
@@ -50,8 +50,7 @@ step_all-requires c =
     let h = ready-there t c.args.medium.now c.args.tenant c.args.ids.now (c.loop-k.k - 1) (omega (arith, c.loop-k.invariant.below)) in
     record {
       of_the_table = refl;
-      ids_len_bound = (omega (arith, c.if-n-gt-MAX_IDS.false));
-      by_index = opened-few t c.args.medium.now c.args.tenant c.args.ids.now c.loop-k.k (columns_of c.loop-k.parts) c.loop-k.invariant.done h.1.inside.few;
+      by_index = λ i l. opened-few t c.args.medium.now c.args.tenant c.args.ids.now c.loop-k.k (columns_of c.loop-k.parts) c.loop-k.invariant.done i;
     }
 
 -- a server that the code goes through is one of 256
@@ -92,7 +91,10 @@ order-requires c =
     let e : c.loop-k.k ≡ 0 = omega arith in
     let number = c.ready-ready.ensures in
     let g = ends-given t _ _ _ _ _ (rw e at c.loop-k.invariant) _ (gone-through t _ c.args.tenant c.args.ids.now number c.searched-servers.ensures) in
-    record { ends_len_bound = g.0; count_le_max_servers = g.1; by_index = g.2 }
+    record { count_le_max_servers = g.1; by_index = g.2 }
+
+pub gathered-requires : goal.gathered-requires
+gathered-requires c = answers-few (table_of c.args.table.now) c.args.medium.now c.args.tenant c.args.ids.now _ _ c.loop-k.invariant.done
 
 pub returns : goal.returns
 unfolding reply_of_batch
@@ -100,5 +102,5 @@ returns c =
     let t = table_of c.args.table.now in
     let e : c.loop-k.k ≡ 0 = omega arith in
     let number = c.ready-ready.ensures in
-    ap reply_of_batch c.gathered.ensures
+    c.gathered.ensures
     ∙ batch-done t _ _ _ _ _ (rw e at c.loop-k.invariant) _ (gone-through t _ c.args.tenant c.args.ids.now number c.searched-servers.ensures) _ c.order.ensures

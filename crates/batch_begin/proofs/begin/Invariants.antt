@@ -5,4 +5,4 @@ use Rattle.batch_begin.specs.Begin.{columns_of, first_parts}
 use Rattle.batch_begin.proofs.begin.Given as goal
 
 abbrev pub invariant-loop-i : goal.invariant-loop-i
-invariant-loop-i l = columns_of l.parts ≡ first_parts (check_number l.ready) l.tenant l.ids l.i
+invariant-loop-i l = columns_of l.parts ≡ first_parts (check_number l.ready) l.tenant l.ids.all.now l.i

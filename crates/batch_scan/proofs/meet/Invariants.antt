@@ -3,4 +3,4 @@ use Rattle.batch_scan.specs.Scan.{Met}
 use Rattle.batch_scan.proofs.meet.Given as goal
 
 abbrev pub invariant-loop-i : goal.invariant-loop-i
-invariant-loop-i l = Met l.word l.entry l.ids l.i l.initial.newest l.newest
+invariant-loop-i l = Met l.word l.entry l.ids.all.now l.i l.initial.newest l.newest

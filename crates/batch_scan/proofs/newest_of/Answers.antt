@@ -12,4 +12,4 @@ pass_all-requires-clause-used_in_bounds c =
 pub returns : goal.returns
 returns c =
     let s = c.args.server.now in
-    newest-all s.capacity s.used s.medium.now c.args.ids.now s.number c.server_at-base.result _ c.pass_all.new.newest c.server_at-base.ensures (λ i l. get_or-replicate 256 i None None (omega arith)) c.pass_all.ensures
+    newest-all s.capacity s.used s.medium.now c.args.ids.now.all.now s.number c.server_at-base.result _ c.pass_all.new.newest c.server_at-base.ensures (λ i l. get_or-replicate 256 i None None (omega arith)) c.pass_all.ensures

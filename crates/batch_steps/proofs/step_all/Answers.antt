@@ -22,5 +22,5 @@ loop-i-preserved c =
 pub returns : goal.returns
 unfolding stepped_all
 returns c =
-    let e : c.loop-i.i ≡ length c.args.ids.now = omega arith in
+    let e : c.loop-i.i ≡ length c.args.ids.now.all.now = omega arith in
     rw (← e) c.loop-i.invariant

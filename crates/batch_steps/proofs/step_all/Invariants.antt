@@ -7,4 +7,4 @@ use Rattle.batch_steps.proofs.step_all.Given as goal
 
 abbrev pub invariant-loop-i : goal.invariant-loop-i
 invariant-loop-i l = columns_of l.parts
-    ≡ with_parts (stepped_at (read_p (table_of l.table) l.server.number) l.table.shape l.server.used l.server.medium.now l.ids l.server.number (columns_of l.initial.parts)) l.i (columns_of l.initial.parts)
+    ≡ with_parts (stepped_at (read_p (table_of l.table) l.server.number) l.table.shape l.server.used l.server.medium.now l.ids.all.now l.server.number (columns_of l.initial.parts)) l.i (columns_of l.initial.parts)

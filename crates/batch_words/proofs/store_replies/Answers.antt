@@ -13,10 +13,10 @@ loop-i-init c = refl
 
 pub store-requires-clause-server_bound : goal.store-requires-clause-server_bound
 store-requires-clause-server_bound c =
-    rw c.lookup_reply.ensures (read-fits c.args.answers.now c.loop-i.i (c.requires.by_index c.loop-i.i (omega arith)))
+    rw c.lookup_reply.ensures (read-fits c.args.batch.now.answers c.args.n c.loop-i.i (omega arith) c.args.batch.now.few (omega arith))
 
 pub loop-i-preserved : goal.loop-i-preserved
 loop-i-preserved c =
-    let f = lookup_part c.args.answers.now in
-    let r = c.lookup_reply.ensures ∙ part-read c.args.answers.now c.loop-i.i in
+    let f = lookup_part c.args.batch.now.answers in
+    let r = c.lookup_reply.ensures ∙ part-read c.args.batch.now.answers c.args.n c.loop-i.i (omega arith) in
     c.store.ensures ∙ ap (with_reply c.loop-i.replies c.loop-i.i) r ∙ ap (λ (words : List ℕ). with_reply words c.loop-i.i (f c.loop-i.i)) c.loop-i.invariant ∙ sym (replies-more f c.loop-i.i c.args.replies.now)

@@ -5,4 +5,4 @@ use Rattle.batch_words.specs.BatchWords.{lookup_part}
 use Rattle.batch_words.proofs.store_replies.Given as goal
 
 abbrev pub invariant-loop-i : goal.invariant-loop-i
-invariant-loop-i l = l.replies ≡ with_replies (lookup_part l.answers) l.i l.initial.replies
+invariant-loop-i l = l.replies ≡ with_replies (lookup_part l.batch.answers) l.i l.initial.replies

@@ -1,8 +1,8 @@
--- `batch_scan::pass_all` meets its contract. The invariant: the entries of the blocks from `b` on are passed.
+-- `batch_scan::Sought::pass_all` meets its contract. The invariant: the entries of the blocks from `b` on are passed.
 use Rattle.std.proofs.Common.{◌≡◌, ◌+◌, ◌*◌, ◌-◌, ◌%◌, length, refl, sym, ◌∙◌, arith, rules}
 use Rattle.batch_scan.specs.Scan.{block}
 use Rattle.batch_scan.proofs.Passing.{passed_then, passed-block}
-use Rattle.batch_scan.proofs.pass_all.Goals as goal
+use Rattle.batch_scan.proofs.Sought.pass_all.Goals as goal
 
 pub loop-b-preserved : goal.loop-b-preserved
 loop-b-preserved c =
@@ -10,4 +10,4 @@ loop-b-preserved c =
     let low = a.used % 8 + block * (c.loop-b.b - 1) in
     let top : a.used % 8 + block * c.loop-b.b ≡ a.used % 8 + block * (c.loop-b.b - 1) + block = omega arith in
     passed_then _ _ _ _ (rw top at c.loop-b.invariant)
-    (passed-block a.medium.now a.base a.ids.now (length a.ids.now) a.filter.now (search rules) block low (a.base + 3 * low) c.loop-b.newest refl (sym c.touches.ensures ∙ c.if-touches.false))
+    (passed-block a.medium.now a.base a.self.now.ids.now.all.now (length a.self.now.ids.now.all.now) a.self.now.filter.now (search rules) block low (a.base + 3 * low) c.loop-b.newest refl (sym c.touches.ensures ∙ c.if-touches.false))
