@@ -20,7 +20,7 @@ pub fn met(server: &Server<'_>, entry: usize) -> Result<u32, Refusal>
 {
     let at = medium::entry_at(server.capacity, server.number, entry);
     let word = server.medium[at + medium::VALUE_PLACE];
-    if words::tag_of(word) == 1 {
+    if words::tag_of(word) == medium::VALUE_TAG {
         Ok(words::content_of(word))
     } else {
         Err(Refusal::Corrupt)

@@ -2,19 +2,17 @@
 #![tactic(auto)]
 
 ghost use Rattle.std.specs.Prelude.{◌≡◌, ◌<◌, ◌≤◌, ◌+◌, length};
-ghost use Rattle.limits.specs.Limits.{max_servers, max_capacity};
-ghost use Rattle.medium.specs.Word.{mark_word, mark_content};
+ghost use Rattle.limits.specs.Limits.{max_servers, max_capacity, content_range};
+ghost use Rattle.medium.specs.Word.{value_word, mark_word, mark_content};
 ghost use Rattle.medium.specs.Entry.{mark_place, server_at, entry_at, bears_at, blank_run};
-
-use limits::CONTENT_RANGE;
 
 // A word that nothing was written to.
 pub const BLANK: u32 = 4294967295;
 
-// What the tag in the top two bits adds to the content of a word: 1 for a value, 2 for a mark. An id's word is the id.
-pub const VALUE_TAG: u32 = CONTENT_RANGE;
+// The tags of a value's word and of a mark's. The tag of an id's word is 0, so that it is the id.
+pub const VALUE_TAG: u32 = 1;
 
-const MARK_TAG: u32 = 2 * CONTENT_RANGE;
+const MARK_TAG: u32 = 2;
 
 // An entry has three words: its id's, its value's and its mark, which stand this far from its first word.
 pub const ENTRY_WORDS: usize = 3;
@@ -38,8 +36,16 @@ impl Mark {
     pub fn word(self) -> u32
         ensures { result ≡ mark_word (mark_content self) }
     {
-        MARK_TAG + self as u32
+        words::tagged(MARK_TAG, self as u32)
     }
+}
+
+// The word of a value.
+pub fn value_word(value: u32) -> u32
+    requires { value < content_range }
+    ensures { result ≡ value_word value }
+{
+    words::tagged(VALUE_TAG, value)
 }
 
 // The first word of a server, and of the one after the last.

@@ -34,7 +34,7 @@ fn enter(medium: &mut [u32], at: usize, id: u32, value: u32, burns: usize)
         (take burns (record { address = at + value_place; word = value_word value } ∷ record { address = at; word = id_word id } ∷ [])) }
 {
     if 0 < burns {
-        medium[at + medium::VALUE_PLACE] = medium::VALUE_TAG + value;
+        medium[at + medium::VALUE_PLACE] = medium::value_word(value);
     }
     if 1 < burns {
         medium[at] = id;
