@@ -12,7 +12,7 @@ use Rattle.writing.proofs.enter.Goals.{else-burns-gt0, then-burns-gt0}
 pub returns-then-burns-gt1 : goal.returns-then-burns-gt1
 returns-then-burns-gt1 c =
     let value-here : c.if-burns-gt0.medium ≡ burn_all c.args.medium.now (take c.args.burns (record { address = c.args.at + 1; word = value_word c.args.value } ∷ [])) = (elim c.if-burns-gt0.branch [
-      | then-burns-gt0 w ↦ w.medium-is ∙ value-burned c.args.medium.now c.args.at c.args.id c.args.value c.args.burns w.if-burns-gt0.true
+      | then-burns-gt0 w ↦ (rw w.value_word.ensures at w.medium-is) ∙ value-burned c.args.medium.now c.args.at c.args.id c.args.value c.args.burns w.if-burns-gt0.true
       | else-burns-gt0 w ↦ w.medium-is ∙ value-left c.args.medium.now c.args.at c.args.id c.args.value c.args.burns w.if-burns-gt0.false
     ]) in
     id-burned c.args.medium.now c.args.at c.args.id c.args.value c.args.burns (value-here) c.if-burns-gt1.true
@@ -20,7 +20,7 @@ returns-then-burns-gt1 c =
 pub returns-else-burns-gt1 : goal.returns-else-burns-gt1
 returns-else-burns-gt1 c =
     let value-here : c.if-burns-gt0.medium ≡ burn_all c.args.medium.now (take c.args.burns (record { address = c.args.at + 1; word = value_word c.args.value } ∷ [])) = (elim c.if-burns-gt0.branch [
-      | then-burns-gt0 w ↦ w.medium-is ∙ value-burned c.args.medium.now c.args.at c.args.id c.args.value c.args.burns w.if-burns-gt0.true
+      | then-burns-gt0 w ↦ (rw w.value_word.ensures at w.medium-is) ∙ value-burned c.args.medium.now c.args.at c.args.id c.args.value c.args.burns w.if-burns-gt0.true
       | else-burns-gt0 w ↦ w.medium-is ∙ value-left c.args.medium.now c.args.at c.args.id c.args.value c.args.burns w.if-burns-gt0.false
     ]) in
     id_left c.args.medium.now c.args.at c.args.id c.args.value c.args.burns (value-here) c.if-burns-gt1.false
