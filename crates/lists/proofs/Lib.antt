@@ -3,3 +3,4 @@ pub mod Below
 pub mod Take
 pub mod Listed
 pub mod Arrays
+pub mod Left
