@@ -1,3 +1,4 @@
 pub mod Columns
 pub mod Kept
 pub mod Calling
+pub mod Lengths

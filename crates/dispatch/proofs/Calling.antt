@@ -3,19 +3,25 @@
 use Prim.Native.Nat.{ℕ, ◌<◌}
 use mathlib.Core.Path.{◌≡◌, refl, sym, ap}
 use mathlib.Core.Bool.{true, false, true≢false}
+use mathlib.Core.Logic.{◌≢◌}
 use lib.ListN.{length}
 use Rattle.std.specs.Prelude.{Option, None, Some}
 use native.Mathlib.Omega.{arith}
 use lib.Dec.{eqb}
-use borrow.Author.Tests.{eqb-true, eqb-false}
+use borrow.Author.Tests.{eqb-true, eqb-false, ne_eqb}
 use Rattle.lists.proofs.Tests.{by_bool}
 use Rattle.table.specs.Parts.{used_of}
 use Rattle.table.proofs.Soundness.{sound-facts}
 use Rattle.upkeep.specs.Upkeep.{with_entry, with_opened}
 use Rattle.calls.specs.declared.Call.{Call}
 use Rattle.calls.specs.declared.Call.TheVariants.{AddServer, Reweight, Write, Delete, Lookup}
-use Rattle.calls.specs.Numbered.{on_servers, is_write}
+use Rattle.calls.specs.Number.{add_server_number, reweight_number, write_number, delete_number, lookup_number}
+use Rattle.calls.specs.Numbered.{on_servers, is_write, call_of}
 use Rattle.replies.specs.declared.Reply.{Reply}
+use Rattle.replies.proofs.Answers.{reply-unopened}
+use Rattle.deletion.specs.Deletion.{delete_reply}
+use Rattle.servers.specs.Servers.{add_server_reply, reweight_reply}
+use Rattle.writing.specs.Writing.{write_reply}
 use Rattle.lookup.specs.Lookup.{lookup_table}
 use Rattle.writing.proofs.Accepted.{written-to, table_kept}
 use Rattle.archive.proofs.Small.{Small, add_server-small, reweight-small, write-small, delete-small, lookup-small}
@@ -30,6 +36,30 @@ no-other (Reweight server weight) o a b = b server weight refl
 no-other (Write _ _ _) o a b = true≢false (sym o)
 no-other (Delete _ _) o a b = true≢false (sym o)
 no-other (Lookup _ _) o a b = true≢false (sym o)
+
+-- no reply but a lookup's carries an opened count; what is no call has none either
+pub unopened : (S : State) (o : Option Call) → ((tenant id : ℕ) → o ≡ Some (Lookup tenant id) → ⊥) → (reply_to S o).opened ≡ 0
+unfolding in_list reply_to reply add_server_reply reweight_reply write_reply delete_reply
+unopened S None n = refl
+unopened S (Some (AddServer _)) n = reply-unopened _ _ refl
+unopened S (Some (Reweight _ _)) n = reply-unopened _ _ refl
+unopened S (Some (Write _ _ _)) n = reply-unopened _ _ refl
+unopened S (Some (Delete _ _)) n = reply-unopened _ _ refl
+unopened S (Some (Lookup tenant id)) n = absurd (n tenant id refl)
+
+-- the same by the number of a call
+pub number-unopened : (S : State) (number tenant subject amount : ℕ) → number ≢ lookup_number → (reply_to S (call_of number tenant subject amount)).opened ≡ 0
+unfolding call_of in_list reply_to reply add_server_reply reweight_reply write_reply delete_reply
+number-unopened S number tenant subject amount l = rw (ne_eqb number lookup_number l)
+    (by_bool (eqb number add_server_number) (λ d. rw d (reply-unopened _ _ refl)) (λ d. rw d
+    (by_bool (eqb number reweight_number) (λ d. rw d (reply-unopened _ _ refl)) (λ d. rw d
+    (by_bool (eqb number write_number) (λ d. rw d (reply-unopened _ _ refl)) (λ d. rw d
+    (by_bool (eqb number delete_number) (λ d. rw d (reply-unopened _ _ refl)) (λ d. rw d refl))))))))
+
+-- a number that is no call
+pub no_call : (number tenant subject amount : ℕ) → number ≢ add_server_number → number ≢ reweight_number → number ≢ write_number → number ≢ delete_number → number ≢ lookup_number → call_of number tenant subject amount ≡ None
+unfolding call_of
+no_call number tenant subject amount a b c d e = rw (ne_eqb number add_server_number a, ne_eqb number reweight_number b, ne_eqb number write_number c, ne_eqb number delete_number d, ne_eqb number lookup_number e)
 
 -- by its reply: whether and where an entry is counted, and the table with what is counted
 module _ (S : State) where

@@ -3,3 +3,4 @@ pub mod Reading
 pub mod Writing
 pub mod Theorem
 pub mod Worked
+pub mod Answered

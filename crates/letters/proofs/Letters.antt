@@ -2,13 +2,17 @@
 -- Assumes nothing.
 use Prim.Native.Nat.{ℕ}
 use mathlib.Core.Path.{◌≡◌, refl, ap}
+use mathlib.Core.Logic.{◌≢◌}
+use mathlib.Core.List.{List, [], ◌∷◌}
 use lib.Dec.{eqb}
-use borrow.Author.Tests.{eqb-true}
-use Rattle.std.specs.Prelude.{Option, Some}
+use borrow.Author.Tests.{eqb-true, ne_eqb}
+use Rattle.std.specs.Prelude.{Option, None, Some}
 use Rattle.std.specs.Option.{option_map}
-use Rattle.lists.specs.Below.{or_zero}
+use Rattle.lists.specs.Below.{nth, or_zero}
 use Rattle.lists.proofs.Tests.{by_bool}
 use Rattle.calls.specs.declared.Call.{Call}
+use Rattle.calls.specs.Number.{add_server_number, reweight_number, write_number, delete_number, lookup_number}
+use Rattle.calls.specs.Numbered.{call_of}
 use Rattle.letters.specs.Letter.{add_server_letter, reweight_letter, write_letter, delete_letter, lookup_letter, letter_of, call_for}
 
 -- where there is a call it has the letter
@@ -27,3 +31,25 @@ has letter first second =
 pub same-letter : (letter first second : ℕ) (c : Call) → call_for letter first second ≡ Some c → letter_of c ≡ letter
 unfolding or_zero
 same-letter letter first second c e = ap or_zero (rw e at (has letter first second))
+
+-- a letter that is none of the five is no call's
+pub no-letter : (letter first second : ℕ) → letter ≢ add_server_letter → letter ≢ reweight_letter → letter ≢ write_letter → letter ≢ delete_letter → letter ≢ lookup_letter → call_for letter first second ≡ None
+unfolding call_for
+no-letter letter first second a b c d e = rw (ne_eqb letter add_server_letter a, ne_eqb letter reweight_letter b, ne_eqb letter write_letter c, ne_eqb letter delete_letter d, ne_eqb letter lookup_letter e)
+
+-- the letters in the order of the calls' numbers, of which 0 is no call's
+abbrev pub letters : List ℕ
+letters = 0 ∷ 70 ∷ 71 ∷ 87 ∷ 68 ∷ 76 ∷ []
+
+numbered : (number tenant subject amount : ℕ) → option_map letter_of (call_of number tenant subject amount) ≡ option_map (λ _. nth letters number) (call_of number tenant subject amount)
+unfolding call_of letter_of
+numbered number tenant subject amount =
+    by_bool (eqb number add_server_number) (λ d. rw (d, eqb-true _ _ d) refl) (λ d. rw d
+    (by_bool (eqb number reweight_number) (λ d. rw (d, eqb-true _ _ d) refl) (λ d. rw d
+    (by_bool (eqb number write_number) (λ d. rw (d, eqb-true _ _ d) refl) (λ d. rw d
+    (by_bool (eqb number delete_number) (λ d. rw (d, eqb-true _ _ d) refl) (λ d. rw d
+    (by_bool (eqb number lookup_number) (λ d. rw (d, eqb-true _ _ d) refl) (λ d. rw d refl)))))))))
+
+pub letter-by-number : (number tenant subject amount : ℕ) (c : Call) → call_of number tenant subject amount ≡ Some c → letter_of c ≡ nth letters number
+unfolding or_zero
+letter-by-number number tenant subject amount c e = ap or_zero (rw e at (numbered number tenant subject amount))

@@ -1,2 +1,3 @@
 mod Runs
 mod Marked
+mod Done

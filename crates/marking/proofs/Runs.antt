@@ -73,7 +73,7 @@ server_inside capacity used m k place i l = omega (arith, place, entries-inside 
 
 -- and are one run
 module _ (capacity used : ℕ) (m : List ℕ) (id k : ℕ) where
-  server-below : (n : ℕ) → n ≤ used → map (mark_at capacity k) (upward (live capacity used m id k) n) ≡ marks_in m id (entry_at capacity k 0) n
+  pub server-below : (n : ℕ) → n ≤ used → map (mark_at capacity k) (upward (live capacity used m id k) n) ≡ marks_in m id (entry_at capacity k 0) n
   unfolding marks_in upward
   server-below zero l = refl
   server-below (suc n) l =

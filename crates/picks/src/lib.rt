@@ -58,8 +58,8 @@ impl Picker<'_> {
     }
 
     // The highest server of a block that takes an id, counted from the block's first, if one does. All are looked at, so that the
-    // compiler compares several at a time: `find` from the highest down would leave at the first that takes, and takes 3.4 times as
-    // many instructions.
+    // compiler compares several at a time: `find` from the highest down leaves at the first that takes, and a copy of this in plain
+    // Rust takes 3.4 times as many instructions with it.
     #[tactic(auto, using(crate::proofs::Limiting::blocks))]
     fn highest_of(&self, id: u32, from: usize) -> Option<usize>
         requires { from + block ≤ length self.now.weights.now }
@@ -118,7 +118,7 @@ impl Weights<'_> {
         let mut sum = 0;
         for (k, &weight) in self.all.iter().enumerate() {
             sum += weight;
-            // Where no draw is exceeded the limit is 0: a column of numbers is compared several at a time, and the weight is tested too.
+            // Where no draw is exceeded the limit is 0, and the weight too, which is tested: numbers are compared several at a time.
             let limit = placement::limit(Fraction {
                 num: weight,
                 den: sum,

@@ -2,7 +2,7 @@
 -- Assumes nothing.
 use Prim.Native.Nat.{ℕ, zero, suc, ◌+◌, ◌-◌, ◌≤◌, ◌<◌}
 use mathlib.Core.Path.{◌≡◌, refl, sym, ap, ◌∙◌, subst}
-use mathlib.Core.Bool.{Bool, true, false, not}
+use mathlib.Core.Bool.{Bool, true, false, cond, not}
 use mathlib.Core.List.{List, [], ◌∷◌, ◌++◌}
 use native.Mathlib.Numerals.{sub-one}
 use native.Mathlib.Omega.{arith}
@@ -17,7 +17,7 @@ use Rattle.lists.specs.Below.{nth, highest, set_below}
 use Rattle.lists.proofs.Tests.{by_bool}
 use Rattle.lists.proofs.Below.{length-set_below, set_below-at, set_below-above, set_below-cong}
 use Rattle.lists.proofs.Listed.{set_below-take}
-use Rattle.medium.specs.Entry.{server_at}
+use Rattle.medium.specs.Entry.{entry_words, server_at, entry_at, blank_run}
 use Rattle.table.specs.declared.Table.{Table}
 use Rattle.table.specs.Parts.{shape_of, table_by, used_of}
 use Rattle.table.specs.Sound.{sound}
@@ -51,6 +51,12 @@ pub past_last-cong : (p q : ℕ → Bool) (n : ℕ) → ((k : ℕ) → k < n →
 unfolding past_last
 past_last-cong p q zero h = refl
 past_last-cong p q (suc n) h = rw (h n (omega arith), past_last-cong p q n (λ k l. h k (omega arith)))
+
+-- one number less
+pub past_last-last : (p : ℕ → Bool) (n : ℕ) (b : Bool) → 0 < n → p (n - 1) ≡ b → past_last p n ≡ cond b n (past_last p (n - 1))
+unfolding past_last
+past_last-last p zero b l e = absurd (omega arith)
+past_last-last p (suc n) b l e = let d : p n ≡ b = rw sub-one at e in rw (sub-one, d)
 
 -- a server's used by the words
 
@@ -122,6 +128,25 @@ past_last-found p (suc n) o r {P} e m next = by_bool (p n)
     (λ d.
     let below : o ≡ highest p n = rw d at e in
     rw d (past_last-found p n o r below m next))
+
+-- the entries of a server from the highest down: what is found is the server's used, if it is among the first n
+module _ (capacity : ℕ) (m : List ℕ) (k n : ℕ) (l : 0 < n) (left : used_on capacity m k ≡ past_last (touched capacity m k) n) where
+  -- an entry by a test of its words
+  tested : (at : ℕ) (b : Bool) → at ≡ entry_at capacity k (n - 1) → b ≡ blank_run m at entry_words → touched capacity m k (n - 1) ≡ not b
+  unfolding touched
+  tested at b e f = rw (f, e)
+
+  pub used-found : (at : ℕ) (b : Bool) → at ≡ entry_at capacity k (n - 1) → b ≡ blank_run m at entry_words → b ≡ false → n ≡ used_on capacity m k
+  used-found at b e f g = sym (left ∙ past_last-last (touched capacity m k) n true l (tested at b e f ∙ ap not g))
+
+  pub used-further : (at : ℕ) (b : Bool) → at ≡ entry_at capacity k (n - 1) → b ≡ blank_run m at entry_words → b ≡ true
+      → used_on capacity m k ≡ past_last (touched capacity m k) (n - 1)
+  used-further at b e f g = left ∙ past_last-last (touched capacity m k) n false l (tested at b e f ∙ ap not g)
+
+-- nothing is left
+pub used-none : (capacity : ℕ) (m : List ℕ) (k n : ℕ) → n ≡ 0 → used_on capacity m k ≡ past_last (touched capacity m k) n → 0 ≡ used_on capacity m k
+unfolding past_last
+used-none capacity m k n z left = sym (left ∙ ap (past_last (touched capacity m k)) z)
 
 -- where recover is accepted, the table is sound and the medium has the words of its servers
 pub record Recoverable (t : Table) (m : List ℕ) : Type 0 where

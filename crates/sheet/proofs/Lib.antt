@@ -1,2 +1,3 @@
 pub mod Sheets
 pub mod Alike
+pub mod Lines

@@ -74,7 +74,7 @@ first-line b (c ∷ rest) = by_bool (eqb b 10)
     (λ e. rw e)
     (λ e. let n : 1 + position_or_len is_lf (c ∷ rest) ≡ suc (position_or_len is_lf (c ∷ rest)) = omega arith in rw (e, first-line c rest, n))
 
-line-first : (left : List ℕ) (n : ℕ) → 0 < length left → position_or_len is_lf left ≡ n → lines_of left ≡ take n left ∷ lines_of (drop (suc n) left)
+pub line-first : (left : List ℕ) (n : ℕ) → 0 < length left → position_or_len is_lf left ≡ n → lines_of left ≡ take n left ∷ lines_of (drop (suc n) left)
 line-first [] n l e = absurd (omega arith)
 line-first (b ∷ rest) n l e = rw (← e) (first-line b rest)
 

@@ -1,1 +1,2 @@
 pub mod Starting
+pub mod Shown
