@@ -65,7 +65,3 @@ unfolding check_number target
 returns-clause-number c =
     let g = planned (table_of c.args.table.now) _ _ _ _ c.target_of-server.result (check-accepted _ c.asked.ensures c.in_ok-asked.was) c.target_of-server.ensures in
     blank_there _ _ _ _ _ _ g c.target_of-server.ensures (ne_eqb _ _ c.if-entry-shape.false) c.entry_at-at.ensures c.is_blank.ensures c.if-not-is_blank.false
-
-pub returns-clause-server : goal.returns-clause-server
-unfolding target
-returns-clause-server c = c.target_of-server.ensures
