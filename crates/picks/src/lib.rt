@@ -172,15 +172,12 @@ pub fn picks(weights: &[u32], salt: u32, ids: &[u32], servers: &mut [u32]) -> us
         ≡ set_below (λ i. write_server (nth weights.now) (length weights.now) salt (nth ids.now i)) result
         servers.old }
 {
-    if !are_bounded(weights) {
-        return 0;
-    }
-    if salt >= CONTENT_RANGE {
+    if !are_bounded(weights) || salt >= CONTENT_RANGE {
         return 0;
     }
     let n = ids.len().min(servers.len());
     let bounded = Weights { all: weights };
-    if (BLOCK <= weights.len()) & (MANY <= n) {
+    if BLOCK <= weights.len() && MANY <= n {
         bounded.pick_many(salt, &ids[..n], servers);
     } else {
         bounded.pick_few(salt, &ids[..n], servers);

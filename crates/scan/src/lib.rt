@@ -79,10 +79,11 @@ impl Server<'_> {
         ensures same { highest (live self.now.capacity self.now.used self.now.medium.now id self.now.number) self.now.used
             ≡ highest (live self.now.capacity self.now.used self.now.medium.now id self.now.number) result }
     {
-        let mut j = self.used;
-        if MANY <= self.used {
-            j = self.pass_blocks(id);
-        }
+        let mut j = if MANY <= self.used {
+            self.pass_blocks(id)
+        } else {
+            self.used
+        };
         // A `for` over the groups' numbers was tried: it took 1.4 times as long on servers of 64 to 250 entries.
         while GROUP <= j {
             let first = medium::entry_at(self.capacity, self.number, j - GROUP);
