@@ -2,11 +2,11 @@
 -- Assumes nothing.
 use Prim.Native.Nat.{ℕ, ◌+◌, ◌-◌, ◌*◌, ◌≤◌, ◌<◌}
 use mathlib.Core.Path.{◌≡◌, refl, sym, ap, ◌∙◌}
-use mathlib.Core.Bool.{Bool, true, false, cond, not, ◌&&◌, and-true, and-false}
+use mathlib.Core.Bool.{Bool, true, false, cond, ◌&&◌, and-true, and-false}
 use mathlib.Core.List.{List}
 use Rattle.std.specs.Prelude.{Option, None, Some}
 use native.Mathlib.Omega.{arith}
-use lib.ListN.{length}
+use lib.ListN.{length, get_or}
 use lib.Dec.{eqb}
 use borrow.Author.Tests.{eqb-true, eq-eqb}
 use Rattle.lists.specs.Below.{nth, highest, some_below}
@@ -31,9 +31,8 @@ met_all None = refl
 met_all (Some met) = refl
 
 -- an entry that bears an id has its slot set
-set-where : (filter ids : List ℕ) (n : ℕ) → Covers filter ids n → (i : ℕ) → i < n → (word : ℕ) → eqb word (nth ids i) ≡ true → is_set filter word ≡ true
-unfolding is_set
-set-where filter ids n c i l word e = rw (eqb-true word (nth ids i) e, c.set_at i l)
+set-where : (filter : List Bool) (ids : List ℕ) (n : ℕ) → Covers filter ids n → (i : ℕ) → i < n → (word : ℕ) → eqb word (nth ids i) ≡ true → is_set filter word ≡ true
+set-where filter ids n c i l word e = rw (eqb-true word (nth ids i) e) (c.set_at i l)
 
 module _ (m : List ℕ) (base : ℕ) (ids : List ℕ) (n : ℕ) where
   -- one stretch after another
@@ -46,12 +45,12 @@ module _ (m : List ℕ) (base : ℕ) (ids : List ℕ) (n : ℕ) where
     unfolding bearing bears_at
     bears-at i = rw place
 
-    no_slot : (filter : List ℕ) → Covers filter ids n → is_set filter (nth m a) ≡ false → (i : ℕ) → i < n → bearing m base (nth ids i) j ≡ false
+    no_slot : (filter : List Bool) → Covers filter ids n → is_set filter (nth m a) ≡ false → (i : ℕ) → i < n → bearing m base (nth ids i) j ≡ false
     no_slot filter c d i l = by_bool (eqb (nth m a) (nth ids i))
         (λ e. absurd (true-not-false (set-where filter ids n c i l (nth m a) e) d))
         (λ e. bears-at i ∙ rw e)
 
-    not-borne : (filter : List ℕ) → Covers filter ids n → is_set filter (nth m a) && eqb (nth m (a + mark_place)) blank ≡ false
+    not-borne : (filter : List Bool) → Covers filter ids n → is_set filter (nth m a) && eqb (nth m (a + mark_place)) blank ≡ false
         → (i : ℕ) → i < n → bearing m base (nth ids i) j ≡ false
     not-borne filter c d i l = by_bool (is_set filter (nth m a))
         (λ e. let f : eqb (nth m (a + mark_place)) blank ≡ false = rw e at d in bears-at i ∙ rw f (and-false (eqb (nth m a) (nth ids i))))
@@ -59,8 +58,8 @@ module _ (m : List ℕ) (base : ℕ) (ids : List ℕ) (n : ℕ) where
 
   -- the entry below j
   module _ (j a : ℕ) (l : 0 < j) (place : a ≡ base + entry_words * (j - 1)) where
-    pub passed_over : (filter : List ℕ) → Covers filter ids n → (x : List (Option ℕ)) (s : ℕ) → s ≡ slot_of (nth m a)
-        → not (eqb (nth filter s) 0) && eqb (nth m (a + mark_place)) blank ≡ false → Passed m base ids n (j - 1) j x x
+    pub passed_over : (filter : List Bool) → Covers filter ids n → (x : List (Option ℕ)) (s : ℕ) → s ≡ slot_of (nth m a)
+        → get_or filter s false && eqb (nth m (a + mark_place)) blank ≡ false → Passed m base ids n (j - 1) j x x
     unfolding is_set
     passed_over filter c x s e d = record {
       long = refl;
@@ -77,7 +76,7 @@ module _ (m : List ℕ) (base : ℕ) (ids : List ℕ) (n : ℕ) where
     }
 
   -- a block of any size from entry low on, which begins at a
-  pub passed-block : (filter : List ℕ) → Covers filter ids n → (size low a : ℕ) (x : List (Option ℕ)) → a ≡ base + entry_words * low
+  pub passed-block : (filter : List Bool) → Covers filter ids n → (size low a : ℕ) (x : List (Option ℕ)) → a ≡ base + entry_words * low
       → some_below (λ k. is_set filter (nth m (a + entry_words * k))) size ≡ false → Passed m base ids n low (low + size) x x
   passed-block filter c size low a x place d = record {
     long = refl;

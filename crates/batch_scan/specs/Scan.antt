@@ -1,5 +1,5 @@
 -- One pass over the entries of a server for several ids, for the contracts of the functions that make it.
-use Rattle.std.specs.Prelude.{ℕ, ◌+◌, ◌*◌, ◌%◌, ◌≤◌, ◌<◌, ◌≡◌, Bool, cond, not, List, length, get_or, eqb, Option, None, Some}
+use Rattle.std.specs.Prelude.{ℕ, ◌+◌, ◌*◌, ◌%◌, ◌≤◌, ◌<◌, ◌≡◌, Bool, true, false, cond, List, length, get_or, eqb, Option, None, Some}
 use Rattle.lists.specs.Below.{nth, highest}
 use Rattle.medium.specs.Entry.{entry_words, bears_at, live}
 
@@ -15,12 +15,12 @@ abbrev pub block : ℕ
 block = 8
 
 -- the slot of a word is set
-unfoldable pub is_set : List ℕ → ℕ → Bool
-is_set filter word = not (eqb (nth filter (slot_of word)) 0)
+unfoldable pub is_set : List Bool → ℕ → Bool
+is_set filter word = get_or filter (slot_of word) false
 
 -- a filter has the slots of the first n ids set
-pub record Covers (filter ids : List ℕ) (n : ℕ) : Type 0 where
-  pub set_at : (i : ℕ) → i < n → nth filter (slot_of (nth ids i)) ≡ 1
+pub record Covers (filter : List Bool) (ids : List ℕ) (n : ℕ) : Type 0 where
+  pub set_at : (i : ℕ) → i < n → is_set filter (nth ids i) ≡ true
 
 -- an id's newest entry so far, and the entry that is next: `bears` says whether that bears the id
 unfoldable pub met_by : Bool → ℕ → Option ℕ → Option ℕ

@@ -12,7 +12,7 @@ use limits::{Ids, MAX_IDS};
 use medium::{BLANK, ENTRY_WORDS, MARK_PLACE};
 use scan::Server;
 
-// The slots of a filter. An id has one of them, and an entry whose slot is 0 bears none of the ids that the filter was filled for.
+// The slots of a filter. An id has one of them, and an entry whose slot is not set bears none of the ids that the filter was filled for.
 const SLOTS: usize = 4096;
 
 // The entries that are tested together.
@@ -26,11 +26,12 @@ fn slot(word: u32) -> usize
 }
 
 // Sets the slots of the ids.
-fn fill(filter: &mut [u8; SLOTS], ids: &[u32])
+#[tactic(auto, unfolding(crate::specs::Scan::is_set))]
+fn fill(filter: &mut [bool; SLOTS], ids: &[u32])
     ensures { Covers filter.new ids.now (length ids.now) }
 {
     for id in ids {
-        filter[slot(*id)] = 1;
+        filter[slot(*id)] = true;
     }
 }
 
@@ -56,7 +57,7 @@ fn meet(newest: &mut [Option<u32>; MAX_IDS], ids: &Ids<'_>, word: u32, entry: u3
 #[derive(Drop)]
 struct Sought<'a> {
     ids: &'a Ids<'a>,
-    filter: &'a [u8; SLOTS],
+    filter: &'a [bool; SLOTS],
     ghost covers: { Covers filter.now ids.now.all.now (length ids.now.all.now) },
 }
 
@@ -69,7 +70,7 @@ impl Sought<'_> {
     {
         let mut seen = false;
         for j in 0..BLOCK {
-            seen |= self.filter[slot(medium[at + ENTRY_WORDS * j])] != 0;
+            seen |= self.filter[slot(medium[at + ENTRY_WORDS * j])];
         }
         seen
     }
@@ -91,7 +92,7 @@ impl Sought<'_> {
         for j in (low..high).rev() {
             let at = base + ENTRY_WORDS * j;
             let word = medium[at];
-            if (self.filter[slot(word)] != 0) & (medium[at + MARK_PLACE] == BLANK) {
+            if self.filter[slot(word)] & (medium[at + MARK_PLACE] == BLANK) {
                 meet(newest, self.ids, word, j as u32);
             }
         }
@@ -126,7 +127,7 @@ pub fn newest_of(server: &Server<'_>, ids: &Ids<'_>) -> [Option<u32>; MAX_IDS]
     ensures { NewestOf server.now.capacity server.now.used server.now.medium.now ids.now.all.now server.now.number result }
 {
     let base = medium::server_at(server.capacity, server.number);
-    let mut filter: [u8; SLOTS] = [0; SLOTS];
+    let mut filter: [bool; SLOTS] = [false; SLOTS];
     fill(&mut filter, ids.all);
     let sought = Sought {
         ids,

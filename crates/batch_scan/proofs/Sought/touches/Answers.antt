@@ -1,6 +1,5 @@
 -- `batch_scan::Sought::touches` meets its contract. The invariant: the test so far is that of the entries passed.
-use Rattle.std.proofs.Common.{ℕ, ◌+◌, ◌*◌, refl, ap, eqb}
-use mathlib.Core.Bool.{not}
+use Rattle.std.proofs.Common.{ℕ, ◌+◌, ◌*◌, refl, ap, false, get_or}
 use Rattle.std.proofs.Math.Bool.{or_comm}
 use Rattle.lists.specs.Below.{nth, some_below}
 use Rattle.lists.proofs.Below.{some_below-next}
@@ -16,4 +15,4 @@ pub loop-j-preserved : goal.loop-j-preserved
 unfolding is_set
 loop-j-preserved c =
     let a = c.args in
-    rw or_comm (some_below-next (λ k. is_set a.self.now.filter.now (nth a.medium.now (a.at + entry_words * k))) c.loop-j.j _ c.loop-j.seen (ap (λ (s : ℕ). not (eqb (nth a.self.now.filter.now s) 0)) c.slot.ensures) c.loop-j.invariant)
+    rw or_comm (some_below-next (λ k. is_set a.self.now.filter.now (nth a.medium.now (a.at + entry_words * k))) c.loop-j.j _ c.loop-j.seen (ap (λ (s : ℕ). get_or a.self.now.filter.now s false) c.slot.ensures) c.loop-j.invariant)
