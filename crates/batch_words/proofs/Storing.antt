@@ -3,9 +3,11 @@
 use Prim.Native.Nat.{ℕ, zero, suc, ◌*◌, ◌≤◌, ◌<◌}
 use mathlib.Core.Path.{◌≡◌, refl, sym, ap, ap₂, ◌∙◌}
 use mathlib.Core.Bool.{Bool, true, false, not, ◌&&◌, and-false}
-use mathlib.Core.List.{List}
+use mathlib.Core.List.{List, ◌++◌}
 use native.Mathlib.Omega.{arith}
-use lib.ListN.{length, set, get_or, take}
+use lib.ListN.{length, set, get_or, take, drop}
+use lib.Seq.{paste}
+use Rattle.lists.proofs.Listed.{set_below-take}
 use Rattle.std.proofs.lemmas.List.{get_or-take, length-take-le}
 use lib.Dec.{leb, eqb}
 use borrow.Author.Tests.{le-leb, lt-leb, leb-true, ltb-false, eqb-true, eqb-false, ne_eqb}
@@ -39,6 +41,11 @@ use Rattle.batch.specs.Batch.{opened_at, batch_rows, batch_reply}
 use Rattle.encoding.specs.Encoding.{reply_length, too_short, with_reply}
 use Rattle.replay.specs.Replay.{with_replies}
 use Rattle.batch_words.specs.BatchWords.{fits_batch, batch_stored, after_batch, lookup_part}
+
+-- numbers pasted at the front are stored there
+pub paste-front : (xs ys : List ℕ) → length xs ≤ length ys → paste ys 0 xs (length xs) ≡ set_below (nth xs) (length xs) ys
+paste-front xs ys few =
+    ap (λ (n : ℕ). take (length xs) xs ++ drop n ys) (omega arith) ∙ sym (set_below-take xs ys (length xs) (omega arith) few)
 
 -- whether the runs are long enough, by the lengths of the table and of the mounts and by the test of the others
 module _ (n : ℕ) (table replies order mounts : List ℕ) where

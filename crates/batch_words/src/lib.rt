@@ -3,7 +3,6 @@
 
 ghost use Rattle.std.specs.Prelude.{◌≡◌, ◌&&◌, ◌≤◌, ◌*◌, length, leb};
 ghost use Rattle.limits.specs.Limits.{max_ids};
-ghost use Rattle.lists.specs.Below.{nth, set_below};
 ghost use Rattle.encoding.specs.Encoding.{reply_length};
 ghost use Rattle.replay.specs.Replay.{with_replies};
 ghost use Rattle.batch_words.specs.BatchWords.{lookup_part, after_batch};
@@ -27,14 +26,6 @@ fn store_replies(batch: &Batch, n: usize, replies: &mut [u32])
     for (i, answer) in batch.answers[..n].iter().enumerate() {
         encoding::store(replies, REPLY_LENGTH * i, replies::lookup_reply(*answer));
     }
-}
-
-// Stores numbers at the front of the words. It stands apart since in the caller the same line needs three answers more to be proved.
-fn store_front(front: &[u32], words: &mut [u32])
-    requires { length front.now ≤ length words.old }
-    ensures { words.new ≡ set_below (nth front.now) (length front.now) words.old }
-{
-    words[..front.len()].copy_from_slice(front);
 }
 
 // Looks many ids up together for a tenant, stores each id's reply, the order of finding and the number of servers opened, and
@@ -77,7 +68,7 @@ pub fn lookup_batch(
         Err(refusal) => refusal.number(),
         Ok(batch) => {
             store_replies(&batch, ids.len(), replies);
-            store_front(&batch.order[..ids.len()], order);
+            table_words::store_array(order, 0, &batch.order[..ids.len()]);
             *mount = batch.mounts as u32;
             call_words::count_opened(words, tenant, batch.opened());
             0

@@ -65,7 +65,7 @@ pub fn view_of(words: &Words) -> View<'_>
 }
 
 // Stores an array in a slice, from a position on.
-fn store_array(words: &mut [u32], from: usize, array: &[u32])
+pub fn store_array(words: &mut [u32], from: usize, array: &[u32])
     requires { from + length array.now ≤ length words.old }
     ensures { words.new ≡ paste words.old from array.now (length array.now) }
 {
