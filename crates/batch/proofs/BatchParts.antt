@@ -142,8 +142,8 @@ module _ (t : Table) (m : List ℕ) (tenant : ℕ) (ids : List ℕ) where
       (λ e. omega (arith, (d.part i (ltb-true i n e)).tally.counted, opens-few (nth ids i)))
       (λ e. omega (arith, (d.rest i (ltb-false i n e)).2))
 
-  pub answers-few : (k : ℕ) (parts : Parts) → PartsFrom k (columns_of parts) → All (λ (a : LookupAnswer). a.opened ≤ 256) parts.answers
-  answers-few k parts d = All-from_get_or (λ (a : LookupAnswer). a.opened ≤ 256) parts.answers (record { value = Ok 0; opened = 0 })
+  pub answers-few : (k : ℕ) (parts : Parts) → PartsFrom k (columns_of parts) → All (λ (a : LookupAnswer). a.opened < 4294967296) parts.answers
+  answers-few k parts d = All-from_get_or (λ (a : LookupAnswer). a.opened < 4294967296) parts.answers (record { value = Ok 0; opened = 0 })
       (λ i l. omega (arith, opened-read parts i, opened-few k (columns_of parts) d i))
 
   -- all servers are done: the arrays are those of the single lookups

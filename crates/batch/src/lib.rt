@@ -2,8 +2,7 @@
 // that it is read for. The table counts for the tenant what single lookups would.
 #![tactic(auto)]
 
-ghost use Rattle.std.specs.Prelude.{◌≡◌, ◌≤◌, cond, ◌==◌, All};
-ghost use Rattle.limits.specs.Limits.{max_servers};
+ghost use Rattle.std.specs.Prelude.{◌≡◌, ◌<◌, cond, ◌==◌, All};
 ghost use Rattle.table.specs.Parts.{table_of};
 ghost use Rattle.replies.specs.Reply.{number_of, check_number};
 ghost use Rattle.batch_answer.specs.Answer.{reply_of_batch, refusals_of, values_of, opened_of};
@@ -39,7 +38,7 @@ fn searched(ready: &Result<(), Refusal>, count: usize) -> usize
 // arrays that it has, and in so small a function the compiler sees that they are stored whole before they are read.
 #[tactic(auto, unfolding(batch_answer::specs::Answer::reply_of_batch))]
 fn gathered(parts: &Parts, mounts: usize, order: [u32; MAX_IDS]) -> Result<Batch, Refusal>
-    requires { All (λ a. a.opened ≤ max_servers) parts.now.answers }
+    requires { All (λ a. a.opened < 4294967296) parts.now.answers }
     ensures { reply_of_batch result
         ≡ record {
           refusal = 0;

@@ -48,12 +48,12 @@ module _ (answers : List LookupAnswer) (long : length answers ≡ 256) where
       let whole : 256 ≡ length (opened_of answers) = omega (arith, length-column (λ r. r.opened) answers, long) in
       rw opened_map (sym (total-sum (opened_of answers) 256 (omega (arith, whole)) ∙ ap sum (take_all 256 (opened_of answers) (omega (arith, whole)))))
 
-  -- each is that of at most 256 servers, so that their sum fits
-  pub sum_fits : All (λ (a : LookupAnswer). a.opened ≤ 256) answers → sum (map opened answers) < 18446744073709551616
+  -- each has 32 bits, so that their sum fits
+  pub sum_fits : All (λ (a : LookupAnswer). a.opened < 4294967296) answers → sum (map opened answers) < 18446744073709551616
   unfolding reply_of_lookup found_or
-  sum_fits few = omega (arith, opened_sum, total-le (nth (opened_of answers)) 256 256 at-most)
+  sum_fits few = omega (arith, opened_sum, total-le (nth (opened_of answers)) 4294967296 256 at-most)
     where
-      at-most : (i : ℕ) → i < 256 → nth (opened_of answers) i ≤ 256
+      at-most : (i : ℕ) → i < 256 → nth (opened_of answers) i ≤ 4294967296
       at-most i l =
           let d : LookupAnswer = record { value = Ok 0; opened = 0 } in
-          omega (arith, column-at (λ r. r.opened) answers i d refl, lookup_opened (get_or answers i d), All-get_or (λ (a : LookupAnswer). a.opened ≤ 256) answers i d (omega (arith, long)) few)
+          omega (arith, column-at (λ r. r.opened) answers i d refl, lookup_opened (get_or answers i d), All-get_or (λ (a : LookupAnswer). a.opened < 4294967296) answers i d (omega (arith, long)) few)

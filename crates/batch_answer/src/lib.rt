@@ -3,8 +3,8 @@
 
 mod ordering;
 
-ghost use Rattle.std.specs.Prelude.{◌≡◌, ◌≤◌, length, eqb, All};
-ghost use Rattle.limits.specs.Limits.{max_servers, max_ids};
+ghost use Rattle.std.specs.Prelude.{◌≡◌, ◌<◌, length, eqb, All};
+ghost use Rattle.limits.specs.Limits.{max_ids};
 ghost use Rattle.lists.specs.Below.{nth, some_below, total};
 
 use limits::MAX_IDS;
@@ -20,13 +20,13 @@ pub const UNANSWERED: LookupAnswer = LookupAnswer {
 // The answer to a batch of lookups. `answers` has for each id, in the ids' order, what its lookup answers, and `order` has the
 // ids' positions in the order of finding; after that there are only answers that found 0 and opened nothing, and zeros. `mounts`
 // is the number of servers opened for all ids together. They are arrays of 256 since no heap is had, and two since the order is of
-// positions. No lookup opened more servers than there may be.
+// positions. An opened count has 32 bits, as in a reply's words.
 #[derive(Clone, Copy)]
 pub struct Batch {
     pub mounts: usize,
     pub answers: [LookupAnswer; MAX_IDS],
     pub order: [u32; MAX_IDS],
-    ghost few: { All (λ a. a.opened ≤ max_servers) answers },
+    ghost few: { All (λ a. a.opened < 4294967296) answers },
 }
 
 impl Batch {

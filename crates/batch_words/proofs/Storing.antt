@@ -211,10 +211,10 @@ module _ (answers : List LookupAnswer) (n i : ℕ) (l : i < n) where
   unfolding lookup_part
   part-read = ap reply_of_lookup (get_or-take n answers i (record { value = Ok 0; opened = 0 }) l)
 
-  pub read-fits : All (λ (a : LookupAnswer). a.opened ≤ 256) answers → i < length (take n answers)
+  pub read-fits : All (λ (a : LookupAnswer). a.opened < 4294967296) answers → i < length (take n answers)
       → ((reply_of_lookup read).server < 4294967296) × ((reply_of_lookup read).opened < 4294967296) × ((reply_of_lookup read).invalidated < 4294967296)
   unfolding reply_of_lookup found_or
   read-fits few b =
       let d : LookupAnswer = record { value = Ok 0; opened = 0 } in
       let p = answer-plain read.value read.opened in
-      (omega (arith, p.0), omega (arith, lookup_opened read, All-get_or (λ (a : LookupAnswer). a.opened ≤ 256) (take n answers) i d b (All-take (λ (a : LookupAnswer). a.opened ≤ 256) n answers few)), omega (arith, p.1))
+      (omega (arith, p.0), omega (arith, lookup_opened read, All-get_or (λ (a : LookupAnswer). a.opened < 4294967296) (take n answers) i d b (All-take (λ (a : LookupAnswer). a.opened < 4294967296) n answers few)), omega (arith, p.1))
