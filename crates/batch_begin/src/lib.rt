@@ -43,6 +43,7 @@ pub fn begin(parts: &mut Parts, ready: Result<(), Refusal>, tenant: u32, ids: &I
 {
     parts.answers.fill(UNANSWERED);
     parts.ends.fill(0);
+    // Counted, and no `zip`, as image_reader says.
     for (i, id) in ids.all.iter().enumerate() {
         parts.answers[i] = LookupAnswer {
             value: Err(first_refusal(ready, tenant, *id)),

@@ -48,6 +48,7 @@ fn meet_one(word: u32, id: u32, newest: Option<u32>, entry: u32) -> Option<u32>
 fn meet(newest: &mut [Option<u32>; MAX_IDS], ids: &Ids<'_>, word: u32, entry: u32)
     ensures { Met word entry ids.now.all.now (length ids.now.all.now) newest.old newest.new }
 {
+    // Counted, and no `zip`, as image_reader says.
     for (i, id) in ids.all.iter().enumerate() {
         newest[i] = meet_one(word, *id, newest[i], entry);
     }

@@ -16,7 +16,7 @@ use scan::Server;
 use table::View;
 
 // Takes one server for one id, of which this is the answer so far and the end: the server is opened if no entry of the id was met
-// yet and it is read for the id.
+// yet and it is read for the id. The table and the steps are lent apart, as to a lookup.
 fn step(
     answer: &mut LookupAnswer,
     end: &mut u16,
@@ -59,6 +59,7 @@ pub fn step_all(
         ≡ stepped_all (read_p (table_of table.now) server.now.number) table.now.shape server.now.used server.now.medium.now
         ids.now.all.now server.now.number (columns_of parts.old) }
 {
+    // Counted, and no `zip`, as image_reader says.
     for (i, id) in ids.all.iter().enumerate() {
         let answer = &mut parts.answers[i];
         step(answer, &mut parts.ends[i], table, steps, server, *id);

@@ -23,13 +23,14 @@ fn store_replies(batch: &Batch, n: usize, replies: &mut [u32])
     requires room { reply_length * n ≤ length replies.old }
     ensures { replies.new ≡ with_replies (lookup_part batch.now.answers) n replies.old }
 {
+    // Counted, and no `zip`, as image_reader says.
     for (i, answer) in batch.answers[..n].iter().enumerate() {
         encoding::store(replies, REPLY_LENGTH * i, replies::lookup_reply(*answer));
     }
 }
 
 // Looks many ids up together for a tenant, stores each id's reply, the order of finding and the number of servers opened, and
-// counts in the table what single lookups would.
+// counts in the table what single lookups would. Its parameters are those of the C interface.
 pub fn lookup_batch(
     table: &mut [u32],
     medium: &[u32],

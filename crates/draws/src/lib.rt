@@ -24,9 +24,7 @@ impl Steps {
         Self { table: STEPS }
     }
 
-    // The step of a server. There are at most 256 servers, and who asks shows that its number is one of these, here, in placement's
-    // `takes` and in table's `read_p`. A type of such a number would spare five clauses, and be made at each of a dozen calls, where
-    // the number is the index of a loop, to be taken apart in the next line.
+    // The step of a server. There are at most 256 servers, and who asks shows that its number is one of these (limits).
     pub fn step(&self, server: usize) -> u32
         requires { server < max_servers }
         ensures { result ≡ step_of server }
@@ -39,9 +37,7 @@ impl Steps {
         requires { server < max_servers }
         ensures { result ≡ seed_of salt id server }
     {
-        id.wrapping_add(salt)
-            .wrapping_add(self.step(server))
-            .max(1)
+        id.wrapping_add(salt).wrapping_add(self.step(server)).max(1)
     }
 
     // The draw of an id on a server under a salt.

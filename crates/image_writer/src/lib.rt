@@ -83,6 +83,7 @@ fn store_counters(destination: &mut [u32], from: usize, counters: &Counters)
     ensures { destination.new
         ≡ sets destination.old from (join_below (λ i. counter_word (nth counters.now i)) tenants) }
 {
+    // Counted, and no `zip`, as image_reader says.
     for (i, counter) in counters.iter().enumerate() {
         destination[from + i] = words::tagged(2, *counter);
     }

@@ -1,7 +1,10 @@
 // The limits of an archive, each named once. The definitions of specs/ have the same names and numbers.
 //
-// Numbers have 32 bits in words and are usize as positions. One is turned into the other by `as` in every crate: Rust has no `From`
-// between them, and the check shows that nothing is lost.
+// Numbers have 32 bits in words and are usize as positions; a batch counts ends in 16 bits. One is turned into another by `as` in every
+// crate: Rust has no `From` from usize to fewer bits or from 32 bits to usize, and the check shows that nothing is lost.
+//
+// That a number is a server's, a count or a capacity within its limit stands in a clause of each function that asks it, and is no type:
+// such a number is a loop's or a table's, and a type would be made of it at each call to be taken apart in the next line.
 #![tactic(auto)]
 
 ghost use Rattle.std.specs.Prelude.{◌≤◌, length};
@@ -40,7 +43,8 @@ pub type Column = [u32; MAX_SERVERS];
 // The counters of opened servers, one for each tenant.
 pub type Counters = [u32; TENANTS];
 
-// What a batch has at most one of for each of its ids, as the ids themselves: so there are at most 256.
+// What a batch has at most one of for each of its ids, as the ids themselves: so there are at most 256. It is lent by `&`: a copy is no
+// derive beside a ghost field of a generic struct.
 #[derive(Drop)]
 pub struct Few<'a, T> {
     pub all: &'a [T],

@@ -48,7 +48,8 @@ struct Picker<'a> {
 }
 
 impl Picker<'_> {
-    // Whether a server takes an id: its weight is not 0 and its draw is not above its limit.
+    // Whether a server takes an id: its weight is not 0 and its draw is not above its limit. Both are looked at, for the same reason as all
+    // servers of a block below.
     fn takes(&self, id: u32, k: usize) -> bool
         requires { k < length self.now.weights.now }
         ensures { result ≡ passes self.now.weights.now self.now.salt id k }
@@ -97,6 +98,7 @@ fn store_each<F: Fn(u32) -> u32>(ids: &[u32], servers: &mut [u32], pick: F)
     ensures { (rule : ℕ → ℕ) → ((id r : ℕ) → F.post pick id r → r ≡ rule id)
         → servers.new ≡ set_below (λ i. rule (nth ids.now i)) (length ids.now) servers.old }
 {
+    // Counted, and no `zip`, as image_reader says.
     for (i, id) in ids.iter().enumerate() {
         servers[i] = pick(*id);
     }

@@ -12,7 +12,8 @@ ghost use Rattle.placement.specs.Rule.{share_of, write_server, Bounded};
 
 use draws::Steps;
 
-// A fraction as document 01 keeps it: a pair, not reduced.
+// A fraction as document 01 keeps it: a pair, not reduced. What compares fractions are functions and no methods, as in specs/, where a
+// fraction is the second of three arguments or the first of two.
 #[derive(Clone, Copy)]
 pub struct Fraction {
     pub num: u32,

@@ -24,7 +24,7 @@ fn target_of(sound: &SoundView<'_>, steps: &Steps, id: u32) -> usize
     placement::write_server(&all[..shape.count], steps, shape.salt, id)
 }
 
-// The server that a write goes to, or the refusal of the tests before it.
+// The server that a write goes to, or the refusal of the tests before it. The table and the steps are lent apart, as to a lookup.
 pub fn plan_write(
     table: &View<'_>,
     steps: &Steps,

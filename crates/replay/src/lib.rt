@@ -31,6 +31,7 @@ fn run_calls(
     ensures replies { replies.new
         ≡ with_replies (reply_at (lent table.old medium.old) calls.now) n replies.old }
 {
+    // Counted, and no `zip` of `as_chunks`, as image_reader says.
     for i in 0..n {
         let at = CALL_LENGTH * i;
         let call = encoding::call_from(calls, at);

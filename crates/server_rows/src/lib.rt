@@ -1,4 +1,5 @@
-// The tests before start, add_server and reweight, in the order of document 01's numbers.
+// The tests before start, add_server and reweight, in the order of document 01's numbers. That a table is not sound is the first row of
+// several calls, and a test of its own in each, so that each function reads as its rows.
 #![tactic(auto)]
 
 ghost use Rattle.std.specs.Prelude.{◌≡◌};

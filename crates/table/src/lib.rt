@@ -25,7 +25,8 @@ pub struct Table {
     pub counters: Counters,
 }
 
-// The numbers that a table has once, and not for each server or tenant.
+// The numbers that a table has once, and not for each server or tenant. A `Table` has them as fields of its own, as document 01 has: who
+// makes a view takes them from there or from three words.
 #[derive(Clone, Copy)]
 pub struct Shape {
     pub capacity: u32,
