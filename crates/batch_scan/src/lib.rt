@@ -40,8 +40,11 @@ fn fill(filter: &mut [bool; SLOTS], ids: &[u32])
 fn meet_one(word: u32, id: u32, newest: Option<u32>, entry: u32) -> Option<u32>
     ensures { result ≡ met_by (eqb word id) entry newest }
 {
-    let first = newest.is_none() & (word == id);
-    if first { Some(entry) } else { newest }
+    if newest.is_none() && word == id {
+        Some(entry)
+    } else {
+        newest
+    }
 }
 
 // Meets an entry without a mark, which has this id's word, for each of the ids.
@@ -93,6 +96,7 @@ impl Sought<'_> {
         for j in (low..high).rev() {
             let at = base + ENTRY_WORDS * j;
             let word = medium[at];
+            // Both are looked at, as all entries of a block are.
             if self.filter[slot(word)] & (medium[at + MARK_PLACE] == BLANK) {
                 meet(newest, self.ids, word, j as u32);
             }

@@ -10,14 +10,14 @@ ghost use Rattle.batch_words.specs.BatchWords.{lookup_part, after_batch};
 use batch_answer::Batch;
 use encoding::REPLY_LENGTH;
 
-// Whether the runs that have room for each id are long enough for a batch of `n` ids.
+// Whether the runs that have room for each id are long enough for a batch of `n` ids: the C interface lends them, each with its length.
 fn fits(n: usize, replies: &[u32], order: &[u32]) -> bool
     ensures { result ≡ (leb (reply_length * n) (length replies.now) && leb n (length order.now)) }
 {
     n <= replies.len() / REPLY_LENGTH && n <= order.len()
 }
 
-// Stores the reply to each of the first `n` ids.
+// Stores the reply to each of the first `n` ids. `n` stands beside the batch, whose answers are an array of 256 (batch_answer).
 fn store_replies(batch: &Batch, n: usize, replies: &mut [u32])
     requires few { n ≤ max_ids }
     requires room { reply_length * n ≤ length replies.old }

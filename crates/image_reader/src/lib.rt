@@ -71,7 +71,8 @@ fn read_counters(image: &[u32], from: usize, counters: &mut Counters) -> Option<
     Some(())
 }
 
-// Reads a table of so many servers, if each word has its tag.
+// Reads a table of so many servers, if each word has its tag. The number stands beside the words, whose length tells it: it was tested by
+// that, and is the table's count.
 fn read_table(image: &[u32], count: usize, table: &mut Table) -> Option<()>
     requires { (count ≤ max_servers) × (length image.now ≡ image_length count) }
     ensures tagged { result ≡ cond (each_tagged image.now count) (Some tt) None }
