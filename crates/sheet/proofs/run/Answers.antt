@@ -1,8 +1,7 @@
 -- `sheet::run` meets its contract.
-use Rattle.std.proofs.Common.{◌≡◌, ◌≤◌, ◌*◌, length, arith, refl, rules, tests}
-use Rattle.std.specs.Slice.Iter.{split_inclusive_rest}
+use Rattle.std.proofs.Common.{◌≤◌, ◌*◌, length, arith, refl, rules, tests}
 use Rattle.std.proofs.lemmas.Fn.{always_returns_same}
-use Rattle.sheet.proofs.Sheets.{is_lf, all_left, line_in, shorter, one-done, none_left, when_too_long, room-question, room-lines}
+use Rattle.sheet.proofs.Sheets.{is_lf, line_in, shorter, one-done, none_left, when_too_long, room-question, room-lines}
 use Rattle.sheet.proofs.run.Goals as goal
 
 pub put_question-requires : goal.put_question-requires
@@ -12,11 +11,6 @@ pub returns-then-input-gt-MAX_INPUT : goal.returns-then-input-gt-MAX_INPUT
 returns-then-input-gt-MAX_INPUT c =
     let done = when_too_long c.args.input.now c.args.medium.now c.args.out.now _ _ c.if-input-gt-MAX_INPUT.true c.put_question.ensures.next c.put_question.ensures.bytes in
     record { number = done.0; bytes = done.1.0; words = done.1.1 }
-
-pub loop-line-init : goal.loop-line-init
-loop-line-init c =
-    let whole : split_inclusive_rest c.into_iter-line-iterator.result ≡ c.args.input.now = search rules in
-    rw whole (all_left c.args.input.now c.args.medium.now c.args.out.now)
 
 pub run_line-at-requires : goal.run_line-at-requires
 run_line-at-requires c =
