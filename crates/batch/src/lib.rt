@@ -35,7 +35,8 @@ fn searched(ready: &Result<(), Refusal>, count: usize) -> usize
 }
 
 // The answer to a batch, by its parts after all servers. It stands apart for speed: a function fills with zeros, at each call, all
-// arrays that it has, and in so small a function the compiler sees that they are stored whole before they are read.
+// arrays that it has, and in so small a function the compiler sees that they are stored whole before they are read. For the same reason
+// it answers a `Result`, and no `Batch` to be wrapped by its caller.
 #[tactic(auto, unfolding(batch_answer::specs::Answer::reply_of_batch))]
 fn gathered(parts: &Parts, mounts: usize, order: [u32; MAX_IDS]) -> Result<Batch, Refusal>
     requires { All (λ a. a.opened < 4294967296) parts.now.answers }

@@ -57,7 +57,8 @@ fn meet(newest: &mut [Option<u32>; MAX_IDS], ids: &Ids<'_>, word: u32, entry: u3
     }
 }
 
-// The ids that a pass is for, and a filter that has their slots set.
+// The ids that a pass is for, and a filter that has their slots set. The words of the medium and an address in them are lent beside it, as
+// the definitions say a place.
 #[derive(Drop)]
 struct Sought<'a> {
     ids: &'a Ids<'a>,

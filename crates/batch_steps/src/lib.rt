@@ -32,6 +32,7 @@ fn step(
         server.now.number (progress_of answer.old end.old) }
 {
     let k = server.number;
+    // An `if` for each reason not to open it: joined they would be no plainer, since the second is a test of the server alone.
     if answer.value != Err(Refusal::NotFound) {
         return;
     }

@@ -46,8 +46,9 @@ fn run_change(call: Call, table: &mut Words, medium: &[u32]) -> Reply
     reply
 }
 
-// Runs a call on a table lent as words; what is no call changes nothing. The same on a `Table` is `run` of sheet_call: one function of
-// both would need a trait of a table that is lent, with four methods and their laws, for the five lines that they share.
+// Runs a call on a table lent as words; what is no call changes nothing. The steps are lent beside it, as to a lookup. The same on a
+// `Table` is `run` of sheet_call: one function of both would need a trait of a table that is lent, with four methods and their laws, for
+// the five lines that they share.
 pub fn run(call: Option<Call>, table: &mut Words, medium: &mut [u32], steps: &Steps) -> Reply
     ensures reply { result ≡ reply_to (lent table.old medium.old) call }
     ensures table { table.new ≡ with_table table.old (next_by (lent table.old medium.old) call).table }

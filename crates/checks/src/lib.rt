@@ -36,7 +36,8 @@ pub fn ready(table: &View<'_>, medium: &[u32], outside: bool, other: bool) -> Re
 }
 
 // The tests of a call that a tenant makes for an id. `outside` says whether another argument of the call is out of range.
-// Tenant and id stay apart in the calls, since a batch has one tenant and many ids.
+// Tenant and id stay apart in the calls, since a batch has one tenant and many ids: a struct of both would be made at each call to be
+// taken apart here.
 #[tactic(auto, unfolding(crate::specs::Ready::asked_rows))]
 pub fn asked(
     table: &View<'_>,
@@ -47,7 +48,7 @@ pub fn asked(
 ) -> Result<(), Refusal>
     ensures { check_number result ≡ first_of (asked_rows (table_of table.now) medium.now tenant id outside) }
 {
-    let any = outside | tenants::out_of_range(tenant, id);
+    let any = outside || tenants::out_of_range(tenant, id);
     let other = tenants::of_another(tenant, id);
     ready(table, medium, any, other)
 }

@@ -7,7 +7,8 @@ ghost use Rattle.counters.specs.Counter.{grown, counted, in_bounds};
 
 use limits::MAX_COUNTER;
 
-// A counter after servers were opened: it grows by their number and stops at its bound.
+// A counter after servers were opened: it grows by their number and stops at its bound. The cases stand apart, as document 02 has them: by
+// `saturating_sub` and `min` of the room it would be no plainer, since one above its bound is in no such sum.
 #[tactic(auto, unfolding(crate::specs::Counter::grown))]
 pub fn grown(counter: u32, opened: usize) -> u32
     ensures { result ≡ grown counter opened }

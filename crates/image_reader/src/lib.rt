@@ -71,8 +71,8 @@ fn read_counters(image: &[u32], from: usize, counters: &mut Counters) -> Option<
     Some(())
 }
 
-// Reads a table of so many servers, if each word has its tag. The number stands beside the words, whose length tells it: it was tested by
-// that, and is the table's count.
+// Reads a table of so many servers, if each word has its tag. The number stands beside the words: `count_in` of their length
+// would be worked out again here, and shown again to be this number.
 fn read_table(image: &[u32], count: usize, table: &mut Table) -> Option<()>
     requires { (count ≤ max_servers) × (length image.now ≡ image_length count) }
     ensures tagged { result ≡ cond (each_tagged image.now count) (Some tt) None }
@@ -93,10 +93,7 @@ fn read_image(image: &[u32], table: &mut Table) -> Option<()>
     ensures table { is_image image.now ≡ true → table.new ≡ table_in image.now }
 {
     let count = count_in(image.len());
-    if count > MAX_SERVERS {
-        return None;
-    }
-    if image.len() != image_length(count) {
+    if count > MAX_SERVERS || image.len() != image_length(count) {
         return None;
     }
     read_table(image, count, table)?;

@@ -34,8 +34,8 @@ pub fn letter_of(call: Call) -> u8
     }
 }
 
-// Answers the call that a letter and its numbers stand for, where the letter has one: a line has a letter, and the enum is made here. F takes its first number as the weight. A call
-// with an id is made for the id's own tenant.
+// Answers the call that a letter and its numbers stand for, where the letter has one: a line has a letter, and the enum is made here. F
+// takes its first number as the weight. A call with an id is made for the id's own tenant.
 #[tactic(auto, unfolding(crate::specs::Letter::call_for))]
 pub fn call_for(letter: u8, first: u32, second: u32) -> Option<Call>
     ensures { result ≡ call_for letter first second }

@@ -1,7 +1,8 @@
 // The limits of an archive, each named once. The definitions of specs/ have the same names and numbers.
 //
 // Numbers have 32 bits in words and are usize as positions; a batch counts ends in 16 bits. One is turned into another by `as` in every
-// crate: Rust has no `From` from usize to fewer bits or from 32 bits to usize, and the check shows that nothing is lost.
+// crate, as the case of an enum is into its number: Rust has no `From` between usize and 32 or 64 bits, to fewer bits, or of an enum, and
+// the check shows that nothing is lost.
 //
 // That a number is a server's, a count or a capacity within its limit stands in a clause of each function that asks it, and is no type:
 // such a number is a loop's or a table's, and a type would be made of it at each call to be taken apart in the next line.

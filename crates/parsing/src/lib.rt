@@ -1,4 +1,5 @@
-// This crate reads numbers, and makes the line of a letter and its numbers.
+// This crate reads numbers, and makes the line of a letter and its numbers. A letter is a byte until the numbers are read: then the enum is
+// made of them.
 #![tactic(auto)]
 
 ghost use Rattle.std.specs.Prelude.{◌≡◌, ◌≤◌, length};

@@ -118,9 +118,11 @@ impl Weights<'_> {
     {
         let mut limits: Column = [0; MAX_SERVERS];
         let mut sum = 0;
+        // Counted, and no `zip`, as image_reader says.
         for (k, &weight) in self.all.iter().enumerate() {
             sum += weight;
-            // Where no draw is exceeded the limit is 0, and the weight too, which is tested: numbers are compared several at a time.
+            // Where no draw is exceeded the limit is 0, and the weight too, which `takes` tests: a column of `Option`s would be no plainer,
+            // since each server's would be matched there besides.
             let limit = placement::limit(Fraction {
                 num: weight,
                 den: sum,

@@ -26,7 +26,7 @@ fn put_number(out: &mut [u8], at: usize, x: u32) -> usize
     next
 }
 
-// Puts a whole answer line.
+// Puts a whole answer line, of a letter and three numbers, as the line has them.
 pub fn put_answer(
     out: &mut [u8],
     at: usize,

@@ -15,7 +15,8 @@ use encoding::CALL_LENGTH;
 use table_words::{TABLE_LENGTH, Words};
 
 // Runs the first `n` encoded calls on a table lent as words. A call and its reply have as many words, so both begin at the same
-// word. `n` stands beside the two: how many calls the words of both have room for is what the C interface answers.
+// word. `n` stands beside the two: how many calls the words of both have room for is what the C interface answers. The steps are lent
+// beside the table, as to a lookup.
 fn run_calls(
     table: &mut Words,
     steps: &Steps,

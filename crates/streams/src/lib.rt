@@ -38,10 +38,8 @@ fn read_from<R: io::Read>(reader: &mut R, buf: &mut [u8], from: usize) -> io::Re
 
 // An error's words, without the number that follows those of the system.
 fn words_of(text: &str) -> &str {
-    match text.split_once(" (os error ") {
-        Some((words, _)) => words,
-        None => text,
-    }
+    text.split_once(" (os error ")
+        .map_or(text, |(words, _)| words)
 }
 
 // Says on standard error what failed and why.

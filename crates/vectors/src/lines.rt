@@ -15,10 +15,10 @@ fn after(input: &[u8], from: usize, byte: u8) -> usize
     requires { from < length input.now }
     ensures { (from < result) × (result ≤ length input.now) }
 {
-    match input[from..].iter().position(|b| *b == byte) {
-        Some(n) => from + n + 1,
-        None => input.len(),
-    }
+    input[from..]
+        .iter()
+        .position(|b| *b == byte)
+        .map_or(input.len(), |n| from + n + 1)
 }
 
 // A number with one digit more, modulo 2^32. The digits are summed by hand: `parse` refuses a number that is longer and what is no digit,
