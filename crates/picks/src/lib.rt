@@ -39,23 +39,22 @@ fn are_bounded(weights: &[u32]) -> bool
 // lent, since a struct that holds them has them copied into it at each call of `picks`.
 #[derive(Clone, Copy)]
 struct Picker<'a> {
-    weights: &'a [u32],
+    weights: Weights<'a>,
     limits: &'a Column,
     steps: &'a Steps,
     salt: u32,
-    ghost bounded: { Bounded weights.now (length weights.now) },
-    ghost limited: { Limited weights.now limits.now },
+    ghost limited: { Limited weights.all.now limits.now },
 }
 
 impl Picker<'_> {
     // Whether a server takes an id: its weight is not 0 and its draw is not above its limit. Both are looked at, for the same reason as all
     // servers of a block below.
     fn takes(&self, id: u32, k: usize) -> bool
-        requires { k < length self.now.weights.now }
-        ensures { result ≡ passes self.now.weights.now self.now.salt id k }
+        requires { k < length self.now.weights.all.now }
+        ensures { result ≡ passes self.now.weights.all.now self.now.salt id k }
     {
         let draw = self.steps.draw(self.salt, id, k);
-        (0 < self.weights[k]) & (draw <= self.limits[k])
+        (0 < self.weights.all[k]) & (draw <= self.limits[k])
     }
 
     // The highest server of a block that takes an id, counted from the block's first, if one does. All are looked at, so that the
@@ -63,8 +62,8 @@ impl Picker<'_> {
     // Rust takes 3.4 times as many instructions with it.
     #[tactic(auto, using(crate::proofs::Limiting::blocks))]
     fn highest_of(&self, id: u32, from: usize) -> Option<usize>
-        requires { from + block ≤ length self.now.weights.now }
-        ensures { result ≡ highest (λ i. passes self.now.weights.now self.now.salt id (from + i)) block }
+        requires { from + block ≤ length self.now.weights.all.now }
+        ensures { result ≡ highest (λ i. passes self.now.weights.all.now self.now.salt id (from + i)) block }
     {
         let mut best = None;
         for j in 0..BLOCK {
@@ -78,16 +77,16 @@ impl Picker<'_> {
     // The write server of an id: from the highest down, a block of which none takes it is passed over, and the lowest servers,
     // too few for a block, are left to `write_server`.
     fn server_of(&self, id: u32) -> usize
-        ensures { result ≡ write_server (nth self.now.weights.now) (length self.now.weights.now) self.now.salt id }
+        ensures { result ≡ write_server (nth self.now.weights.all.now) (length self.now.weights.all.now) self.now.salt id }
     {
-        let rest = self.weights.len() % BLOCK;
-        for block in (0..self.weights.len() / BLOCK).rev() {
+        let rest = self.weights.all.len() % BLOCK;
+        for block in (0..self.weights.all.len() / BLOCK).rev() {
             let from = rest + BLOCK * block;
             if let Some(j) = self.highest_of(id, from) {
                 return from + j;
             }
         }
-        placement::write_server(&self.weights[..rest], self.steps, self.salt, id)
+        placement::write_server(&self.weights.all[..rest], self.steps, self.salt, id)
     }
 }
 
@@ -144,7 +143,7 @@ impl Weights<'_> {
         let limits = self.limits();
         let steps = Steps::new();
         let picker = Picker {
-            weights: self.all,
+            weights: *self,
             limits: &limits,
             steps: &steps,
             salt,

@@ -5,4 +5,4 @@ use Rattle.picks.specs.Limited.{passes}
 use Rattle.picks.proofs.Picker.highest_of.Given as goal
 
 abbrev pub invariant-loop-j : goal.invariant-loop-j
-invariant-loop-j l = l.best ≡ highest (λ k. passes l.self.weights.now l.self.salt l.id (l.from + k)) l.j
+invariant-loop-j l = l.best ≡ highest (λ k. passes l.self.weights.all.now l.self.salt l.id (l.from + k)) l.j

@@ -7,14 +7,14 @@ use Rattle.picks.proofs.Picker.server_of.Goals as goal
 
 pub loop-block-init : goal.loop-block-init
 loop-block-init c =
-    let ws = c.args.self.now.weights.now in
+    let ws = c.args.self.now.weights.all.now in
     let all : length ws ≡ length ws % block + block * (length ws / block) = omega arith in
     subst (ServedBy ws c.args.self.now.salt c.args.id) all (served-all ws c.args.self.now.salt c.args.id)
 
 pub overflow_add-result : goal.overflow_add-result
 overflow_add-result c =
-    let from : ℕ = length c.args.self.now.weights.now % block + block * (c.loop-block.block - 1) in
-    omega (arith, highest-small (λ i. passes c.args.self.now.weights.now c.args.self.now.salt c.args.id (from + i)) block _ (sym c.highest_of.ensures ∙ c.in-Some.is), c.args.self.now.bounded.few)
+    let from : ℕ = length c.args.self.now.weights.all.now % block + block * (c.loop-block.block - 1) in
+    omega (arith, highest-small (λ i. passes c.args.self.now.weights.all.now c.args.self.now.salt c.args.id (from + i)) block _ (sym c.highest_of.ensures ∙ c.in-Some.is), c.args.self.now.weights.bounded.few)
 
 pub returns-in-Some : goal.returns-in-Some
 returns-in-Some c =
@@ -25,5 +25,5 @@ loop-block-preserved c = served-past _ _ _ _ _ block (omega arith) c.loop-block.
 
 pub returns : goal.returns
 returns c =
-    let rest : length c.args.self.now.weights.now % block + block * c.loop-block.block ≡ length c.args.self.now.weights.now % block = omega arith in
+    let rest : length c.args.self.now.weights.all.now % block + block * c.loop-block.block ≡ length c.args.self.now.weights.all.now % block = omega arith in
     served-rest _ _ _ _ _ (rw rest at c.loop-block.invariant) (c.write_server.ensures ∙ front-server _ _ _ _ (omega arith))

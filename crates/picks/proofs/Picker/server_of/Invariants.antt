@@ -5,4 +5,4 @@ use Rattle.picks.proofs.Limiting.{ServedBy}
 use Rattle.picks.proofs.Picker.server_of.Given as goal
 
 abbrev pub invariant-loop-block : goal.invariant-loop-block
-invariant-loop-block l = ServedBy l.self.weights.now l.self.salt l.id (l.rest + block * l.block)
+invariant-loop-block l = ServedBy l.self.weights.all.now l.self.salt l.id (l.rest + block * l.block)
