@@ -67,17 +67,12 @@ struct Sought<'a> {
 }
 
 impl Sought<'_> {
-    // Whether the slot of one of the entries of a block is set. The block begins at an address. It looks at every entry, whatever it
-    // finds, since an early exit is a branch for each.
+    // Whether the slot of one of the entries of a block is set. The block begins at an address.
     fn touches(&self, medium: &[u32], at: usize) -> bool
         requires { at + entry_words * block ≤ length medium.now }
         ensures { result ≡ some_below (λ j. is_set self.now.filter.now (nth medium.now (at + entry_words * j))) block }
     {
-        let mut seen = false;
-        for j in 0..BLOCK {
-            seen |= self.filter[slot(medium[at + ENTRY_WORDS * j])];
-        }
-        seen
+        (0..BLOCK).any(|j| self.filter[slot(medium[at + ENTRY_WORDS * j])])
     }
 
     // Passes the entries from `high` down to `low` of the server that begins at an address. An entry whose slot is not set bears none
@@ -97,7 +92,7 @@ impl Sought<'_> {
         for j in (low..high).rev() {
             let at = base + ENTRY_WORDS * j;
             let word = medium[at];
-            // Both are looked at, as all entries of a block are.
+            // One test by `&`: by `&&` it would be no plainer, since its proof has an arm for each way to be false.
             if self.filter[slot(word)] & (medium[at + MARK_PLACE] == BLANK) {
                 meet(newest, self.ids, word, j as u32);
             }

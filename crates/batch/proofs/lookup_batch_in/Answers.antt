@@ -63,12 +63,6 @@ bounds-table-k c = server-few (table_of c.args.table.now) c.args.medium.now c.ar
 pub offset_bounds-table-k : goal.offset_bounds-table-k
 offset_bounds-table-k c = omega (arith, bounds-table-k c)
 
-pub overflow_cast-k : goal.overflow_cast-k
-overflow_cast-k c = omega (arith, server-few (table_of c.args.table.now) c.args.medium.now c.args.tenant c.args.ids.now (c.loop-k.k - 1) (omega (arith, c.loop-k.invariant.below)))
-
-pub overflow_add-k : goal.overflow_add-k
-overflow_add-k c = omega (arith, server-few (table_of c.args.table.now) c.args.medium.now c.args.tenant c.args.ids.now (c.loop-k.k - 1) (omega (arith, c.loop-k.invariant.below)))
-
 pub overflow_add-mounts : goal.overflow_add-mounts
 overflow_add-mounts c =
     let t = table_of c.args.table.now in

@@ -1,18 +1,17 @@
--- `batch_scan::Sought::touches` meets its contract. The invariant: the test so far is that of the entries passed.
-use Rattle.std.proofs.Common.{ℕ, ◌+◌, ◌*◌, refl, ap, false, get_or}
-use Rattle.std.proofs.Math.Bool.{or_comm}
-use Rattle.lists.specs.Below.{nth, some_below}
-use Rattle.lists.proofs.Below.{some_below-next}
+-- `batch_scan::Sought::touches` meets its contract: whether the slot of one of the entries of a block is set.
+use Rattle.std.proofs.Common.{◌+◌, ◌*◌, ◌∙◌, refl, arith, rules}
+use borrow.Author.Tests.{tests}
+use Rattle.std.proofs.lemmas.Iterator.{YieldsList-from_range}
+use Rattle.std.proofs.lemmas.Iterator.Search.{any_from_yields_List}
+use Rattle.lists.specs.Below.{nth}
 use Rattle.medium.specs.Entry.{entry_words}
-use Rattle.batch_scan.specs.Scan.{is_set}
+use Rattle.batch_scan.specs.Scan.{block, is_set}
+use Rattle.scan.proofs.Passing.{some-numbers}
 use Rattle.batch_scan.proofs.Sought.touches.Goals as goal
 
-pub loop-j-init : goal.loop-j-init
-unfolding some_below
-loop-j-init c = refl
-
-pub loop-j-preserved : goal.loop-j-preserved
+pub returns : goal.returns
 unfolding is_set
-loop-j-preserved c =
+returns c =
     let a = c.args in
-    rw or_comm (some_below-next (λ k. is_set a.self.now.filter.now (nth a.medium.now (a.at + entry_words * k))) c.loop-j.j _ c.loop-j.seen (ap (λ (s : ℕ). get_or a.self.now.filter.now s false) c.slot.ensures) c.loop-j.invariant)
+    any_from_yields_List (λ j. is_set a.self.now.filter.now (nth a.medium.now (a.at + entry_words * j))) _ _ c.any.result c.any.ensures.ran (YieldsList-from_range 0 block block refl (omega arith)) (λ x b q k. search (rules, tests))
+    ∙ some-numbers _ block
