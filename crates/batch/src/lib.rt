@@ -5,12 +5,11 @@
 ghost use Rattle.std.specs.Prelude.{◌≡◌, ◌<◌, cond, ◌==◌, All};
 ghost use Rattle.table.specs.Parts.{table_of};
 ghost use Rattle.replies.specs.Reply.{number_of, check_number};
-ghost use Rattle.batch_answer.specs.Answer.{reply_of_batch, refusals_of, values_of, opened_of};
+ghost use Rattle.batch_answer.specs.Answer.{reply_of_batch, refusals_of, values_of, opened_counts_of};
 ghost use Rattle.batch.specs.Batch.{long_number, batch_reply, batch_table};
 
 use batch_answer::{Batch, UNANSWERED};
 use batch_begin::Parts;
-use draws::Steps;
 use limits::{Few, Ids, MAX_IDS};
 use replies::Refusal;
 use scan::Server;
@@ -46,7 +45,7 @@ fn gathered(parts: &Parts, mounts: usize, order: [u32; MAX_IDS]) -> Result<Batch
           mounts = mounts;
           refusals = refusals_of parts.now.answers;
           values = values_of parts.now.answers;
-          opened = opened_of parts.now.answers;
+          opened = opened_counts_of parts.now.answers;
           order = order;
         } }
 {
@@ -78,7 +77,6 @@ pub fn lookup_batch_in(
     let listed: Ids<'_> = Few { all: ids };
     let ready = checks::ready(table, medium, false, false);
     let servers = searched(&ready, table.shape.count);
-    let steps = Steps::new();
     batch_begin::begin(&mut parts, ready, tenant, &listed);
     let mut mounts: usize = 0;
     for k in (0..servers).rev() {
@@ -88,7 +86,7 @@ pub fn lookup_batch_in(
             used: table.used[k] as usize,
             number: k,
         };
-        batch_steps::step_all(&mut parts, table, &steps, &server, &listed);
+        batch_steps::step_all(&mut parts, table, &server, &listed);
         if batch_answer::has(&parts.ends[..n], k as u16 + 1) {
             mounts += 1;
         }

@@ -9,22 +9,14 @@ ghost use Rattle.batch_begin.specs.Begin.{columns_of};
 ghost use Rattle.batch_steps.specs.Steps.{progress_of, stepped, stepped_all};
 
 use batch_begin::Parts;
-use draws::Steps;
 use limits::Ids;
 use replies::{LookupAnswer, Refusal};
 use scan::Server;
 use table::View;
 
 // Takes one server for one id, of which this is the answer so far and the end: the server is opened if no entry of the id was met
-// yet and it is read for the id. The table and the steps are lent apart, as to a lookup.
-fn step(
-    answer: &mut LookupAnswer,
-    end: &mut u16,
-    table: &View<'_>,
-    steps: &Steps,
-    server: &Server<'_>,
-    id: u32,
-)
+// yet and it is read for the id.
+fn step(answer: &mut LookupAnswer, end: &mut u16, table: &View<'_>, server: &Server<'_>, id: u32)
     requires of_the_table { server.now.capacity ≡ table.now.shape.capacity }
     requires opened_le_max_servers { answer.old.opened ≤ max_servers }
     ensures { progress_of answer.new end.new
@@ -36,7 +28,7 @@ fn step(
     if answer.value != Err(Refusal::NotFound) {
         return;
     }
-    if !placement::takes(table.read_p(k), steps, table.shape.salt, id, k) {
+    if !placement::takes(table.read_p(k), table.shape.salt, id, k) {
         return;
     }
     answer.opened += 1;
@@ -47,13 +39,7 @@ fn step(
 }
 
 // Takes one server for every id.
-pub fn step_all(
-    parts: &mut Parts,
-    table: &View<'_>,
-    steps: &Steps,
-    server: &Server<'_>,
-    ids: &Ids<'_>,
-)
+pub fn step_all(parts: &mut Parts, table: &View<'_>, server: &Server<'_>, ids: &Ids<'_>)
     requires of_the_table { server.now.capacity ≡ table.now.shape.capacity }
     requires by_index { (i : ℕ) → i < length ids.now.all.now → nth (columns_of parts.old).opened i ≤ max_servers }
     ensures { columns_of parts.new
@@ -63,6 +49,6 @@ pub fn step_all(
     // Counted, and no `zip`, as image_reader says.
     for (i, id) in ids.all.iter().enumerate() {
         let answer = &mut parts.answers[i];
-        step(answer, &mut parts.ends[i], table, steps, server, *id);
+        step(answer, &mut parts.ends[i], table, server, *id);
     }
 }

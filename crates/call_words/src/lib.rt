@@ -12,7 +12,6 @@ ghost use Rattle.dispatch.specs.OneCall.{reply_to, next_by, used_after};
 ghost use Rattle.call_words.specs.CallWords.{lent, after_call, with_column};
 
 use calls::Call;
-use draws::Steps;
 use encoding::{CALL_LENGTH, REPLY_LENGTH};
 use replies::Reply;
 use table_words::{COUNTERS_OFFSET, NUMERATORS_OFFSET, TABLE_LENGTH, USED_OFFSET, Words};
@@ -46,10 +45,9 @@ fn run_change(call: Call, table: &mut Words, medium: &[u32]) -> Reply
     reply
 }
 
-// Runs a call on a table lent as words; what is no call changes nothing. The steps are lent beside it, as to a lookup. The same on a
-// `Table` is `run` of sheet_call: one function of both would need a trait of a table that is lent, with four methods and their laws, for
-// the five lines that they share.
-pub fn run(call: Option<Call>, table: &mut Words, medium: &mut [u32], steps: &Steps) -> Reply
+// Runs a call on a table lent as words; what is no call changes nothing. The same on a `Table` is `run` of sheet_call: one
+// function of both would need a trait of a table that is lent, with four methods and their laws, for the five lines that they share.
+pub fn run(call: Option<Call>, table: &mut Words, medium: &mut [u32]) -> Reply
     ensures reply { result ≡ reply_to (lent table.old medium.old) call }
     ensures table { table.new ≡ with_table table.old (next_by (lent table.old medium.old) call).table }
     ensures medium { medium.new ≡ (next_by (lent table.old medium.old) call).medium }
@@ -60,7 +58,7 @@ pub fn run(call: Option<Call>, table: &mut Words, medium: &mut [u32], steps: &St
     if call.on_servers() {
         return run_change(call, table, medium);
     }
-    let reply = dispatch::run_in(call, &table_words::view_of(table), steps, medium);
+    let reply = dispatch::run_in(call, &table_words::view_of(table), medium);
     count(table, call, reply);
     dispatch::count_lookup(&mut table[COUNTERS_OFFSET..TABLE_LENGTH], call, reply);
     reply
@@ -87,7 +85,7 @@ pub fn call(table: &mut [u32], medium: &mut [u32], call: &[u32], reply: &mut [u3
     let Some(words) = table.first_chunk_mut() else {
         return encoding::TOO_SHORT;
     };
-    let told = run(encoding::call_from(call, 0), words, medium, &Steps::new());
+    let told = run(encoding::call_from(call, 0), words, medium);
     encoding::store(reply, 0, told);
     told.refusal
 }

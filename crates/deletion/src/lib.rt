@@ -6,17 +6,15 @@ ghost use Rattle.table.specs.Parts.{table_of};
 ghost use Rattle.replies.specs.Reply.{reply_of_delete};
 ghost use Rattle.deletion.specs.Deletion.{delete_reply, delete_medium, delete_some_medium};
 
-use draws::Steps;
 use limits::ALL_BURNS;
 use medium::Mark;
 use replies::Refusal;
 use table::{Table, View};
 
 // Deletes an id for a tenant on a table that is lent, with as many marks burned as `burns` allow. It answers how many entries it
-// invalidates, as if all were. The table and the steps are lent apart, as to `invalidate`.
+// invalidates, as if all were.
 pub fn delete_in(
     table: &View<'_>,
-    steps: &Steps,
     medium: &mut [u32],
     tenant: u32,
     id: u32,
@@ -26,7 +24,7 @@ pub fn delete_in(
     ensures medium { medium.new ≡ delete_some_medium (table_of table.now) medium.old tenant id burns }
 {
     checks::asked(table, medium, tenant, id, false)?;
-    let n = invalidation::invalidate(medium, table, steps, id, 0, Mark::Deleted, burns);
+    let n = invalidation::invalidate(medium, table, id, 0, Mark::Deleted, burns);
     if n == 0 {
         return Err(Refusal::NotFound);
     }
@@ -44,7 +42,7 @@ pub fn delete_some(
     ensures reply { reply_of_delete result ≡ delete_reply table.now medium.old tenant id }
     ensures medium { medium.new ≡ delete_some_medium table.now medium.old tenant id burns }
 {
-    delete_in(&table.view(), &Steps::new(), medium, tenant, id, burns)
+    delete_in(&table.view(), medium, tenant, id, burns)
 }
 
 // Deletes an id for a tenant.

@@ -1,6 +1,6 @@
 // One call: add_server and reweight run on a table by reference, every other call on a table that is lent. The table and the words of the
 // medium are two parameters here and in every call, and no struct: some calls change the one and read the other, some the other way
-// round, and the C interface lends the two apart. The steps stand beside the table, as to a lookup.
+// round, and the C interface lends the two apart.
 #![tactic(auto)]
 
 ghost use Rattle.std.specs.Prelude.{◌≡◌, true, false, ◌<◌, length};
@@ -13,7 +13,6 @@ ghost use Rattle.dispatch.specs.OneCall.{no_call_number, reply_to, next_by, used
 ghost use Rattle.dispatch.specs.SomeBurns.{some_reply, some_next};
 
 use calls::Call;
-use draws::Steps;
 use limits::ALL_BURNS;
 use replies::Reply;
 use table::{Table, View};
@@ -30,24 +29,18 @@ pub fn no_call() -> Reply
 
 // Runs a write or a delete with a number of burns on a table that is lent; any other call is no call here.
 #[tactic(auto, unfolding(crate::specs::SomeBurns::some_reply, crate::specs::SomeBurns::some_next))]
-pub fn run_some(
-    call: Option<Call>,
-    burns: usize,
-    table: &View<'_>,
-    steps: &Steps,
-    medium: &mut [u32],
-) -> Reply
+pub fn run_some(call: Option<Call>, burns: usize, table: &View<'_>, medium: &mut [u32]) -> Reply
     ensures reply { result ≡ some_reply (record { table = table_of table.now; medium = medium.old }) call }
     ensures medium { medium.new
         ≡ (some_next (record { table = table_of table.now; medium = medium.old }) call burns).medium }
 {
     match call {
         Some(Call::Write { tenant, id, value }) => {
-            let written = writing::write_in(table, steps, medium, tenant, id, value, burns);
+            let written = writing::write_in(table, medium, tenant, id, value, burns);
             replies::write_reply(written)
         }
         Some(Call::Delete { tenant, id }) => {
-            let deleted = deletion::delete_in(table, steps, medium, tenant, id, burns);
+            let deleted = deletion::delete_in(table, medium, tenant, id, burns);
             replies::delete_reply(deleted)
         }
         _ => no_call(),
@@ -56,7 +49,7 @@ pub fn run_some(
 
 // Runs a call but add_server and reweight on a table that is lent. `count_write` and `count_lookup` then make the table after it.
 #[tactic(auto, unfolding(crate::specs::OneCall::in_list, crate::specs::OneCall::reply_to, crate::specs::OneCall::next_by, history::specs::Machine::reply, history::specs::Machine::next))]
-pub fn run_in(call: Call, table: &View<'_>, steps: &Steps, medium: &mut [u32]) -> Reply
+pub fn run_in(call: Call, table: &View<'_>, medium: &mut [u32]) -> Reply
     requires { on_servers call ≡ false }
     ensures reply { result ≡ reply_to (record { table = table_of table.now; medium = medium.old }) (Some call) }
     ensures medium { medium.new
@@ -64,10 +57,14 @@ pub fn run_in(call: Call, table: &View<'_>, steps: &Steps, medium: &mut [u32]) -
 {
     match call {
         Call::Lookup { tenant, id } => {
-            let answer = lookup::lookup_in(table, steps, medium, tenant, id);
+            let answer = lookup::lookup_in(table, medium, tenant, id);
             replies::lookup_reply(answer)
         }
-        _ => run_some(Some(call), ALL_BURNS, table, steps, medium),
+        _ => {
+            // A copy, so that a lookup's table need not stand in memory to be lent on.
+            let lent = *table;
+            run_some(Some(call), ALL_BURNS, &lent, medium)
+        }
     }
 }
 

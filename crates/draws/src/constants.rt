@@ -1,8 +1,8 @@
-// The steps of the draw, one for each server: entry k is (k + 1) * 2654435769 % 2^32. The field `rule` of `Steps` says so of the whole
-// table by one test (`are_steps`), so that a wrong number here is refused.
+// The steps of the draw, one for each server: entry k is (k + 1) * 2654435769 % 2^32. The contract of `step` says so of the whole table
+// by one test (`are_steps`), so that a wrong number here is refused.
 use limits::MAX_SERVERS;
 
-pub const STEPS: [u32; MAX_SERVERS] = [
+pub static STEPS: [u32; MAX_SERVERS] = [
     // servers 0 to 15
     2654435769, 1013904242, 3668340011, 2027808484, 387276957, 3041712726, 1401181199, 4055616968,
     2415085441, 774553914, 3428989683, 1788458156, 147926629, 2802362398, 1161830871, 3816266640,

@@ -9,17 +9,15 @@ ghost use Rattle.medium.specs.Burn.{burn_all, invalidations};
 ghost use Rattle.table.specs.Parts.{table_of};
 ghost use Rattle.invalidation.specs.Marks.{marks_from};
 
-use draws::Steps;
 use medium::Mark;
 use table::View;
 
 // Burns a mark on each live entry of an id on the readable servers from `from` up, as many as `burns` allow, and answers how many such
-// entries there are. The table and the steps are lent apart, as to a lookup. So are the id, the mark and the burns: a struct of them
-// would be made by write and by delete to be taken apart in the loops below.
+// entries there are. The id, the mark and the burns are apart: a struct of them would be made by write and by delete to be taken apart
+// in the loops below.
 pub fn invalidate(
     medium: &mut [u32],
     table: &View<'_>,
-    steps: &Steps,
     id: u32,
     from: usize,
     mark: Mark,
@@ -34,7 +32,7 @@ pub fn invalidate(
     let salt = table.shape.salt;
     let mut n: usize = 0;
     for k in from..table.shape.count {
-        if placement::takes(table.read_p(k), steps, salt, id, k) {
+        if placement::takes(table.read_p(k), salt, id, k) {
             let used = table.used[k] as usize;
             n = marking::invalidate_server(medium, entries, used, id, k, mark, burns, n);
         }

@@ -6,7 +6,6 @@ ghost use Rattle.table.specs.Parts.{table_of};
 ghost use Rattle.replies.specs.Reply.{found_or, reply_of_lookup};
 ghost use Rattle.lookup.specs.Lookup.{met_reply, lookup_reply, lookup_table};
 
-use draws::Steps;
 use replies::{LookupAnswer, Refusal};
 use scan::Server;
 use table::{Table, View};
@@ -27,16 +26,8 @@ pub fn met(server: &Server<'_>, entry: usize) -> Result<u32, Refusal>
     }
 }
 
-// Looks an id up for a tenant on a table that is lent. The caller counts the servers that were opened. The table and the steps are lent
-// apart: a list of calls makes its steps once and lends its table anew for each, so that a struct of both would be made at each call,
-// and every contract, which speaks of the table alone, would reach it through that struct.
-pub fn lookup_in(
-    table: &View<'_>,
-    steps: &Steps,
-    medium: &[u32],
-    tenant: u32,
-    id: u32,
-) -> LookupAnswer
+// Looks an id up for a tenant on a table that is lent. The caller counts the servers that were opened.
+pub fn lookup_in(table: &View<'_>, medium: &[u32], tenant: u32, id: u32) -> LookupAnswer
     ensures { reply_of_lookup result ≡ lookup_reply (table_of table.now) medium.now tenant id }
 {
     if let Err(refusal) = checks::asked(table, medium, tenant, id, false) {
@@ -45,7 +36,7 @@ pub fn lookup_in(
             opened: 0,
         };
     }
-    let answer = search::find(table, steps, medium, id);
+    let answer = search::find(table, medium, id);
     let opened = answer.opened;
     match answer.met {
         None => LookupAnswer {
@@ -73,7 +64,7 @@ pub fn lookup(table: &mut Table, medium: &[u32], tenant: u32, id: u32) -> Lookup
     ensures reply { reply_of_lookup result ≡ lookup_reply table.old medium.now tenant id }
     ensures table { table.new ≡ lookup_table table.old medium.now tenant id }
 {
-    let answer = lookup_in(&table.view(), &Steps::new(), medium, tenant, id);
+    let answer = lookup_in(&table.view(), medium, tenant, id);
     upkeep::add_opened(table, tenant, answer.opened);
     answer
 }

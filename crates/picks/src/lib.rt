@@ -10,7 +10,6 @@ ghost use Rattle.placement.specs.Rule.{write_server, Bounded};
 ghost use Rattle.picks.specs.Picks.{bounded, picks_of};
 ghost use Rattle.picks.specs.Limited.{block, passes, Limited};
 
-use draws::Steps;
 use limits::{CONTENT_RANGE, Column, MAX_CAPACITY, MAX_SERVERS};
 use placement::Fraction;
 
@@ -35,13 +34,12 @@ fn are_bounded(weights: &[u32]) -> bool
     (1..=MAX_SERVERS).contains(&weights.len()) && are_light(weights)
 }
 
-// What the write server of an id is picked by: the weights, the limits of their servers, the steps and the salt. The columns are
-// lent, since a struct that holds them has them copied into it at each call of `picks`.
+// What the write server of an id is picked by: the weights, the limits of their servers and the salt. The column of limits is
+// lent, since a struct that holds it has it copied into it at each call of `picks`.
 #[derive(Clone, Copy)]
 struct Picker<'a> {
     weights: Weights<'a>,
     limits: &'a Column,
-    steps: &'a Steps,
     salt: u32,
     ghost limited: { Limited weights.all.now limits.now },
 }
@@ -53,7 +51,7 @@ impl Picker<'_> {
         requires { k < length self.now.weights.all.now }
         ensures { result ≡ passes self.now.weights.all.now self.now.salt id k }
     {
-        let draw = self.steps.draw(self.salt, id, k);
+        let draw = draws::draw(self.salt, id, k);
         (0 < self.weights.all[k]) & (draw <= self.limits[k])
     }
 
@@ -86,7 +84,7 @@ impl Picker<'_> {
                 return from + j;
             }
         }
-        placement::write_server(&self.weights.all[..rest], self.steps, self.salt, id)
+        placement::write_server(&self.weights.all[..rest], self.salt, id)
     }
 }
 
@@ -141,11 +139,9 @@ impl Weights<'_> {
             servers.old }
     {
         let limits = self.limits();
-        let steps = Steps::new();
         let picker = Picker {
             weights: *self,
             limits: &limits,
-            steps: &steps,
             salt,
         };
         store_each(ids, servers, |id| picker.server_of(id) as u32);
@@ -159,9 +155,8 @@ impl Weights<'_> {
             ≡ set_below (λ i. write_server (nth self.now.all.now) (length self.now.all.now) salt (nth ids.now i)) (length ids.now)
             servers.old }
     {
-        let steps = Steps::new();
         store_each(ids, servers, |id| {
-            placement::write_server(self.all, &steps, salt, id) as u32
+            placement::write_server(self.all, salt, id) as u32
         });
     }
 }

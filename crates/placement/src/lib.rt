@@ -10,8 +10,6 @@ ghost use Rattle.draws.specs.Draw.{modulus, draw_of};
 ghost use Rattle.placement.specs.Fraction.{exceeds, at_least};
 ghost use Rattle.placement.specs.Rule.{share_of, write_server, Bounded};
 
-use draws::Steps;
-
 // A fraction as document 01 keeps it: a pair, not reduced. What compares fractions are functions and no methods, as in specs/, where a
 // fraction is the second of three arguments or the first of two.
 #[derive(Clone, Copy)]
@@ -70,11 +68,11 @@ pub fn write_p(server: usize, weight: u32, sum: u32) -> Fraction
 
 // Whether a server with this fraction takes an id under a salt: the fraction exceeds the server's draw. With WriteP it is the
 // write rule, with ReadP the read rule.
-pub fn takes(f: Fraction, steps: &Steps, salt: u32, id: u32, server: usize) -> bool
+pub fn takes(f: Fraction, salt: u32, id: u32, server: usize) -> bool
     requires server_lt_max_servers { server < max_servers }
     ensures { result ≡ exceeds modulus f (draw_of salt id server) }
 {
-    exceeds(f, steps.draw(salt, id, server))
+    exceeds(f, draws::draw(salt, id, server))
 }
 
 // The sum of the weights.
@@ -88,7 +86,7 @@ pub fn sum_weights(weights: &[u32]) -> u32
 // The write server of an id under a salt among the servers of these weights: from the highest down, the first whose WriteP exceeds
 // its draw. Server 0 takes what no other does, so that the loop ends above it. A weight of 0 needs no case of its own, since a
 // fraction of 0 exceeds no draw.
-pub fn write_server(weights: &[u32], steps: &Steps, salt: u32, id: u32) -> usize
+pub fn write_server(weights: &[u32], salt: u32, id: u32) -> usize
     requires { Bounded weights.now (length weights.now) }
     ensures { result ≡ write_server (nth weights.now) (length weights.now) salt id }
 {
@@ -99,7 +97,7 @@ pub fn write_server(weights: &[u32], steps: &Steps, salt: u32, id: u32) -> usize
             num: weight,
             den: sum,
         };
-        if takes(write, steps, salt, id, k) {
+        if takes(write, salt, id, k) {
             return k;
         }
         sum -= weight;

@@ -7,13 +7,12 @@ ghost use Rattle.replies.specs.Refusal.{first_of};
 ghost use Rattle.replies.specs.Reply.{check_number};
 ghost use Rattle.planning.specs.WriteRows.{target, write_rows};
 
-use draws::Steps;
 use limits::CONTENT_RANGE;
 use replies::Refusal;
 use table::{SoundView, View};
 
 // The server that a write of an id goes to on a sound table.
-fn target_of(sound: &SoundView<'_>, steps: &Steps, id: u32) -> usize
+fn target_of(sound: &SoundView<'_>, id: u32) -> usize
     ensures { result ≡ target (table_of sound.now.view.now) id }
 {
     let table = sound.view;
@@ -21,13 +20,12 @@ fn target_of(sound: &SoundView<'_>, steps: &Steps, id: u32) -> usize
     // The slice has a name, so that the check knows its length from the array's type.
     let weights = table.weights;
     let all: &[u32] = weights;
-    placement::write_server(&all[..shape.count], steps, shape.salt, id)
+    placement::write_server(&all[..shape.count], shape.salt, id)
 }
 
-// The server that a write goes to, or the refusal of the tests before it. The table and the steps are lent apart, as to a lookup.
+// The server that a write goes to, or the refusal of the tests before it.
 pub fn plan_write(
     table: &View<'_>,
-    steps: &Steps,
     medium: &[u32],
     tenant: u32,
     id: u32,
@@ -39,7 +37,7 @@ pub fn plan_write(
     checks::asked(table, medium, tenant, id, CONTENT_RANGE <= value)?;
     let sound = SoundView { view: table };
     let shape = table.shape;
-    let server = target_of(&sound, steps, id);
+    let server = target_of(&sound, id);
     let entry = table.used[server];
     if entry == shape.capacity {
         return Err(Refusal::ServerFull);

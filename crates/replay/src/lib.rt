@@ -10,21 +10,12 @@ ghost use Rattle.call_words.specs.CallWords.{lent};
 ghost use Rattle.replay.specs.Replay.{calls_below, with_replies, runs, reply_at, LedgerWords};
 ghost use Rattle.replay.specs.Lent.{resumes};
 
-use draws::Steps;
 use encoding::CALL_LENGTH;
 use table_words::{TABLE_LENGTH, Words};
 
 // Runs the first `n` encoded calls on a table lent as words. A call and its reply have as many words, so both begin at the same
-// word. `n` stands beside the two: how many calls the words of both have room for is what the C interface answers. The steps are lent
-// beside the table, as to a lookup.
-fn run_calls(
-    table: &mut Words,
-    steps: &Steps,
-    calls: &[u32],
-    medium: &mut [u32],
-    replies: &mut [u32],
-    n: usize,
-)
+// word. `n` stands beside the two: how many calls the words of both have room for is what the C interface answers.
+fn run_calls(table: &mut Words, calls: &[u32], medium: &mut [u32], replies: &mut [u32], n: usize)
     requires { (call_length * n ≤ length calls.now) × (reply_length * n ≤ length replies.old) }
     ensures table { table.new
         ≡ with_table table.old (after (lent table.old medium.old) (calls_below calls.now n)).table }
@@ -36,7 +27,7 @@ fn run_calls(
     for i in 0..n {
         let at = CALL_LENGTH * i;
         let call = encoding::call_from(calls, at);
-        let reply = call_words::run(call, table, medium, steps);
+        let reply = call_words::run(call, table, medium);
         encoding::store(replies, at, reply);
     }
 }
@@ -61,7 +52,7 @@ pub fn replay(
     let n = encoding::room(calls.len(), replies.len());
     let mut words: Words = [0; TABLE_LENGTH];
     table_words::store_table(&mut words, &started);
-    run_calls(&mut words, &Steps::new(), calls, medium, replies, n);
+    run_calls(&mut words, calls, medium, replies, n);
     n
 }
 
@@ -78,6 +69,6 @@ pub fn resume(table: &mut [u32], calls: &[u32], medium: &mut [u32], replies: &mu
         return 0;
     };
     let n = encoding::room(calls.len(), replies.len());
-    run_calls(words, &Steps::new(), calls, medium, replies, n);
+    run_calls(words, calls, medium, replies, n);
     n
 }

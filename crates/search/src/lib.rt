@@ -7,7 +7,6 @@ ghost use Rattle.medium.specs.Entry.{AllInside};
 ghost use Rattle.table.specs.Parts.{table_of};
 ghost use Rattle.search.specs.Search.{search_for, answer_of};
 
-use draws::Steps;
 use scan::Server;
 use table::View;
 
@@ -25,10 +24,9 @@ pub struct SearchAnswer {
     pub opened: usize,
 }
 
-// The entry that a lookup meets, and how many servers it opens. The table and the steps are lent apart, as to a lookup. A `Server` of a
-// table is made here, in a lookup and in a batch: a function of the three would ask for the two facts that its ghost fields state,
-// and promise each of its four fields.
-pub fn find(table: &View<'_>, steps: &Steps, medium: &[u32], id: u32) -> SearchAnswer
+// The entry that a lookup meets, and how many servers it opens. A `Server` of a table is made here, in a lookup and in a
+// batch: a function of the three would ask for the two facts that its ghost fields state, and promise each of its four fields.
+pub fn find(table: &View<'_>, medium: &[u32], id: u32) -> SearchAnswer
     requires { AllInside table.now.shape.capacity table.now.shape.count (nth table.now.used.now) medium.now }
     ensures { result ≡ answer_of (search_for (table_of table.now) medium.now id) }
 {
@@ -36,7 +34,7 @@ pub fn find(table: &View<'_>, steps: &Steps, medium: &[u32], id: u32) -> SearchA
     let salt = table.shape.salt;
     let mut opened: usize = 0;
     for server in (0..table.shape.count).rev() {
-        if placement::takes(table.read_p(server), steps, salt, id, server) {
+        if placement::takes(table.read_p(server), salt, id, server) {
             opened += 1;
             let opening = Server {
                 medium,

@@ -10,7 +10,6 @@ ghost use Rattle.sheet_start.specs.SheetStart.{sheet_of};
 ghost use Rattle.sheet_call.specs.SheetCall.{call_run};
 
 use calls::Call;
-use draws::Steps;
 use replies::Reply;
 use table::Table;
 
@@ -24,8 +23,7 @@ fn run(call: Call, table: &mut Table, medium: &mut [u32]) -> Reply
         return dispatch::run_change(call, table, medium);
     }
     let view = table.view();
-    let steps = Steps::new();
-    let reply = dispatch::run_in(call, &view, &steps, medium);
+    let reply = dispatch::run_in(call, &view, medium);
     dispatch::count_write(&mut table.used, call, reply);
     dispatch::count_lookup(&mut table.counters, call, reply);
     reply

@@ -8,7 +8,6 @@ ghost use Rattle.call_words.specs.CallWords.{lent};
 ghost use Rattle.some_words.specs.SomeWords.{after_some};
 
 use calls::Call;
-use draws::Steps;
 use encoding::BURNS_OFFSET;
 use replies::Reply;
 use table_words::Words;
@@ -20,7 +19,7 @@ fn run(call: Option<Call>, burns: usize, table: &mut Words, medium: &mut [u32]) 
     ensures medium { medium.new ≡ (some_next (lent table.old medium.old) call burns).medium }
 {
     let view = table_words::view_of(table);
-    let reply = dispatch::run_some(call, burns, &view, &Steps::new(), medium);
+    let reply = dispatch::run_some(call, burns, &view, medium);
     // Tried: one `if` of both tests. Where it does not hold, the check then has no name for the fact that there is no call.
     if let Some(call) = call {
         if writing::is_whole(reply.invalidated, burns) {

@@ -3,7 +3,6 @@ ghost use Rattle.std.specs.Prelude.{◌≤◌};
 ghost use Rattle.limits.specs.Limits.{max_capacity};
 
 use crate::{Answer, Command};
-use draws::Steps;
 use placement::Fraction;
 
 // A seed after this many rounds.
@@ -20,19 +19,17 @@ fn picked(first: u32, second: u32, third: u32, salt: u32) -> u64
     requires { (first ≤ max_capacity) × (second ≤ max_capacity) × (third ≤ max_capacity) }
 {
     let weights: [u32; 3] = [first, second, third];
-    let steps = Steps::new();
-    placement::write_server(&weights, &steps, salt, 626627286) as u64
+    placement::write_server(&weights, salt, 626627286) as u64
 }
 
 // p is for the step of a server, s for the seed and d for the draw of an id on a server, r for a seed after some rounds, and k
 // for the pick among three servers of these weights; the last number of s, d and k is a salt.
 fn number(command: Command) -> u64 {
     let [a, b, c, d, ..] = command.numbers;
-    let steps = Steps::new();
     match command.letter {
-        b'p' => u64::from(steps.step((a % 256) as usize)),
-        b's' => u64::from(steps.seed(c, a, (b % 256) as usize)),
-        b'd' => u64::from(steps.draw(c, a, (b % 256) as usize)),
+        b'p' => u64::from(draws::step((a % 256) as usize)),
+        b's' => u64::from(draws::seed(c, a, (b % 256) as usize)),
+        b'd' => u64::from(draws::draw(c, a, (b % 256) as usize)),
         b'r' => u64::from(rounds(a, b)),
         _ => picked(a % 65537, b % 65537, c % 65537, d),
     }

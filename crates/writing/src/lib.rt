@@ -8,9 +8,9 @@ ghost use Rattle.medium.specs.Entry.{value_place};
 ghost use Rattle.medium.specs.Burn.{burn_all};
 ghost use Rattle.table.specs.Parts.{table_of};
 ghost use Rattle.replies.specs.Reply.{reply_of_write};
+ghost use Rattle.writing.specs.declared.TheConstants.{ENTRY_BURNS};
 ghost use Rattle.writing.specs.Writing.{write_reply, write_table, write_medium, write_some_table, write_some_medium};
 
-use draws::Steps;
 use limits::ALL_BURNS;
 use medium::Mark;
 use replies::{Refusal, Written};
@@ -21,7 +21,7 @@ const ENTRY_BURNS: usize = 2;
 
 // Whether `burns` are all that a write with `n` marks makes, or more.
 pub fn is_whole(n: usize, burns: usize) -> bool
-    ensures { result ≡ leb (n + 2) burns }
+    ensures { result ≡ leb (n + ENTRY_BURNS) burns }
 {
     ENTRY_BURNS <= burns && n <= burns - ENTRY_BURNS
 }
@@ -43,11 +43,9 @@ fn enter(medium: &mut [u32], at: usize, id: u32, value: u32, burns: usize)
 
 // Writes for a tenant on a table that is lent: the value and the id go to the write server's next entry, then each earlier live entry
 // of the id on readable servers at or above it is invalidated, with as many burns as `burns` allow. It answers as if all were made.
-// The caller counts the entry as used on the server that is answered, where all burns were made. The table and the steps are lent
-// apart, as to a lookup.
+// The caller counts the entry as used on the server that is answered, where all burns were made.
 pub fn write_in(
     table: &View<'_>,
-    steps: &Steps,
     medium: &mut [u32],
     tenant: u32,
     id: u32,
@@ -57,13 +55,13 @@ pub fn write_in(
     ensures reply { reply_of_write result ≡ write_reply (table_of table.now) medium.old tenant id value }
     ensures medium { medium.new ≡ write_some_medium (table_of table.now) medium.old tenant id value burns }
 {
-    let server = planning::plan_write(table, steps, medium, tenant, id, value)?;
+    let server = planning::plan_write(table, medium, tenant, id, value)?;
     let capacity = table.shape.capacity as usize;
     let at = medium::entry_at(capacity, server, table.used[server] as usize);
     enter(medium, at, id, value, burns);
     let left = burns.saturating_sub(ENTRY_BURNS);
     let mark = Mark::Replaced;
-    let invalidated = invalidation::invalidate(medium, table, steps, id, server, mark, left);
+    let invalidated = invalidation::invalidate(medium, table, id, server, mark, left);
     Ok(Written {
         server,
         invalidated,
@@ -83,15 +81,7 @@ pub fn write_some(
     ensures table { table.new ≡ write_some_table table.old medium.old tenant id value burns }
     ensures medium { medium.new ≡ write_some_medium table.old medium.old tenant id value burns }
 {
-    let written = write_in(
-        &table.view(),
-        &Steps::new(),
-        medium,
-        tenant,
-        id,
-        value,
-        burns,
-    )?;
+    let written = write_in(&table.view(), medium, tenant, id, value, burns)?;
     if is_whole(written.invalidated, burns) {
         upkeep::add_entry(table, written.server);
     }
