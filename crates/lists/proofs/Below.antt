@@ -8,7 +8,8 @@ use lib.ListN.{length, set, replicate, length-set, length-replicate, length-appe
 use lib.Seq.{sets, get_or-set_same, get_or-set_other, get_or-append-add, ext_get_or}
 use mathlib.Core.Path.{◌≡◌, refl, sym, ap, ◌∙◌, subst}
 use mathlib.Core.Bool.{Bool, true, false, cond, not, ◌&&◌, ◌||◌}
-use Rattle.std.specs.Prelude.{Some}
+use Rattle.std.specs.Prelude.{Option, Some, option_map}
+use Rattle.std.specs.Option.{option_or}
 use native.Mathlib.Nat.{add-zero, add-suc, suc-add, mul-zero, mul-suc}
 use native.Mathlib.Numerals.{add-one, sub-one}
 use native.Mathlib.Omega.{arith}
@@ -132,6 +133,22 @@ highest-among p n zero e = absurd (true-not-false e refl)
 highest-among p n (suc d) e = by_bool (p (n + d))
     (λ h. rw (add-suc, h))
     (λ h. rw (add-suc, h) (highest-among p n d (rw h at e)))
+
+-- the highest of the numbers below n + d is one of the last d, or else it is below n
+run-next : (n : ℕ) (b : Bool) (d : ℕ) (all last below : Option ℕ) → all ≡ option_or (option_map (λ i. n + i) last) below
+    → cond b (Some (n + d)) all ≡ option_or (option_map (λ i. n + i) (cond b (Some d) last)) below
+run-next n true d all last below e = refl
+run-next n false d all last below e = e
+
+pub highest-run : (p : ℕ → Bool) (n d : ℕ) → highest p (n + d) ≡ option_or (option_map (λ i. n + i) (highest (λ i. p (n + i)) d)) (highest p n)
+unfolding highest
+highest-run p n zero = ap (highest p) (add-zero n)
+highest-run p n (suc d) = ap (highest p) (add-suc n d) ∙ run-next n (p (n + d)) d _ _ _ (highest-run p n d)
+
+-- what is found among n is at most n
+pub highest-few : (p : ℕ → Bool) (n i : ℕ) → highest p n ≡ Some i → i ≤ n
+unfolding or_zero
+highest-few p n i e = omega (arith, ap or_zero e, highest-le p n)
 
 -- one number more, as a loop counts that keeps the highest so far
 pub highest-next : (p : ℕ → Bool) (n before after : ℕ) (here b : Bool) → here ≡ p n → here ≡ b → before ≡ or_zero (highest p n) → after ≡ cond b n before → after ≡ or_zero (highest p (n + 1))

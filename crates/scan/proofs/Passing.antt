@@ -1,19 +1,17 @@
 -- Blocks that a search passes over: where no entry of a block bears the id, the highest live entry is below it.
 -- The laws are over any number of entries in a block. Assumes nothing.
 use Prim.Native.Nat.{ℕ, ◌+◌, ◌-◌, ◌*◌, ◌≤◌, ◌<◌}
-use mathlib.Core.Path.{◌≡◌, refl, sym, ap, ◌∙◌}
+use mathlib.Core.Path.{◌≡◌, refl, sym, ap, ap₂, ◌∙◌}
 use mathlib.Core.Bool.{Bool, false, ◌||◌}
 use mathlib.Core.List.{List}
 use native.Mathlib.Omega.{arith}
+use Rattle.std.specs.Prelude.{Option, None, Some, option_map}
+use Rattle.std.specs.Option.{option_or}
 use lib.Dec.{eqb}
 use lib.ListN.{length, get_or, take, drop}
 use Rattle.std.proofs.Math.Bool.{or_comm}
-use Rattle.std.specs.List.{list_any, range_with_len}
-use Rattle.std.proofs.lemmas.List.{take_all}
-use Rattle.std.proofs.lemmas.List.FromFn.{length-range_with_len, get_or-range_with_len}
 use Rattle.lists.specs.Below.{nth, some_below, highest}
-use Rattle.lists.proofs.Below.{some_below-out, some_below-next, some_below-cong, highest-below}
-use Rattle.lists.proofs.Listed.{some_below-take}
+use Rattle.lists.proofs.Below.{some_below-out, some_below-next, highest-below, highest-cong, highest-run}
 use Rattle.medium.specs.Word.{id_word}
 use Rattle.medium.specs.Entry.{entry_words, entry_at, bears_at, live, Inside}
 use Rattle.medium.proofs.Places.{entry-on, entries-inside}
@@ -25,14 +23,6 @@ has_word m id from n = some_below (λ i. eqb (nth m (from + i)) (id_word id)) n
 
 abbrev pub bears_some : List ℕ → ℕ → ℕ → ℕ → Bool
 bears_some m id from n = some_below (λ i. bears_at m id (from + entry_words * i)) n
-
--- a test of the numbers below n, one after another
-pub some-numbers : (p : ℕ → Bool) (n : ℕ) → list_any p (range_with_len 0 n) ≡ some_below p n
-some-numbers p n =
-    let whole : take n (range_with_len 0 n) ≡ range_with_len 0 n = take_all n _ (omega (arith, length-range_with_len 0 n)) in
-    ap (list_any p) (sym whole)
-    ∙ sym (some_below-take p (range_with_len 0 n) n (omega (arith, length-range_with_len 0 n)))
-    ∙ some_below-cong _ p n (λ k l. let e : nth (range_with_len 0 n) k ≡ k = omega (arith, get_or-range_with_len 0 n k 0 l) in ap p e)
 
 -- the words of a run are a slice, and its next word is the slice's
 pub has-next : (m : List ℕ) (id from n i : ℕ) {found : Bool} → i < n → found ≡ has_word m id from i
@@ -64,9 +54,32 @@ module _ (capacity used : ℕ) (m : List ℕ) (id k d low : ℕ) (below : low + 
   pub block-inside : Inside capacity k m → used ≤ capacity → from + entry_words * d ≤ length m
   block-inside i l = omega (arith, place, entries-inside capacity k low d m i (omega arith))
 
-  -- as the code tells it: by the words, and by the entries where the words do not
+  -- as the code tells it, by the words, and by the entries
   pub passed-by-words : has_word m id from (entry_words * d) ≡ false → highest (live capacity used m id k) (low + d) ≡ highest (live capacity used m id k) low
   passed-by-words e = block-passed (none-by-words m id from d e)
 
   pub passed-by-entries : bears_some m id from d ≡ false → highest (live capacity used m id k) (low + d) ≡ highest (live capacity used m id k) low
   passed-by-entries e = block-passed (λ i l. some_below-out (λ i. bears_at m id (from + entry_words * i)) d e i l)
+
+-- n entries from entry low on: the highest live entry of all that are below low + n is one of them, or else it is below low
+module _ (capacity used : ℕ) (m : List ℕ) (id k low n : ℕ) (few : low + n ≤ used) where
+  bearing : ℕ → Bool
+  bearing j = bears_at m id (entry_at capacity k j)
+
+  same : (d : ℕ) → d ≤ used → highest (live capacity used m id k) d ≡ highest bearing d
+  unfolding bearing
+  same d l = highest-cong (live capacity used m id k) bearing d (λ j h. live_below capacity used m id k j (omega arith))
+
+  pub run-found : (last : Option ℕ) → last ≡ highest (λ i. bears_at m id (entry_at capacity k (low + i))) n
+      → highest (live capacity used m id k) (low + n) ≡ option_or (option_map (λ i. low + i) last) (highest (live capacity used m id k) low)
+  unfolding bearing
+  run-found last e = same (low + n) few ∙ highest-run bearing low n ∙ ap₂ option_or (ap (option_map (λ i. low + i)) (sym e)) (sym (same low (omega arith)))
+
+-- below 0 there is none
+or_none : (found : Option ℕ) → option_or found None ≡ found
+or_none None = refl
+or_none (Some i) = refl
+
+pub all-searched : (p : ℕ → Bool) (n : ℕ) (found : Option ℕ) → highest p (0 + n) ≡ option_or found (highest p 0) → found ≡ highest p n
+unfolding highest
+all-searched p n found e = sym (or_none found) ∙ sym e ∙ ap (highest p) (omega arith)

@@ -1,11 +1,12 @@
-// A server's entries by blocks: whether a block may bear an id, the blocks that a search from the highest entry down may pass over, and
-// the newest entry of an id.
+// A search of a server for an id: whether a block of its entries may bear the id, and the newest entry that does.
 #![tactic(auto)]
 
-ghost use Rattle.std.specs.Prelude.{◌≡◌, ◌<◌, ◌≤◌, ◌+◌, ◌*◌, length, eqb};
+ghost use Rattle.std.specs.Prelude.{◌≡◌, ◌≤◌, ◌+◌, ◌%◌, length, eqb};
+ghost use Rattle.std.specs.Option.{option_or};
 ghost use Rattle.lists.specs.Below.{nth, some_below, highest};
 ghost use Rattle.medium.specs.Word.{id_word};
-ghost use Rattle.medium.specs.Entry.{entry_words, bears_at, live, Inside};
+ghost use Rattle.medium.specs.Entry.{entry_at, bears_at, live, Inside};
+ghost use Rattle.scan.specs.declared.TheConstants.{BLOCK_ENTRIES};
 
 use medium::ENTRY_WORDS;
 
@@ -33,14 +34,6 @@ pub fn has(medium: &[u32], from: usize, n: usize, id: u32) -> bool
     found
 }
 
-// Whether some of the `n` entries from `from` on bears an id. The two say a place in the medium, here and above, as the definitions do.
-fn bears_some(medium: &[u32], from: usize, n: usize, id: u32) -> bool
-    requires { from + entry_words * n ≤ length medium.now }
-    ensures { result ≡ some_below (λ i. bears_at medium.now id (from + entry_words * i)) n }
-{
-    (0..n).any(|i| medium::bears(medium, from + ENTRY_WORDS * i, id))
-}
-
 // One server of a medium: the words that are lent as the medium, the capacity of a server, how many entries are used on this one, and its
 // number.
 #[derive(Clone, Copy)]
@@ -54,56 +47,67 @@ pub struct Server<'a> {
 }
 
 impl Server<'_> {
-    // The entries that are left to a search for an id once the blocks from the highest entry down that do not bear it are passed over.
-    fn pass_blocks(&self, id: u32) -> usize
-        ensures few { result ≤ self.now.used }
-        ensures same { highest (live self.now.capacity self.now.used self.now.medium.now id self.now.number) self.now.used
-            ≡ highest (live self.now.capacity self.now.used self.now.medium.now id self.now.number) result }
+    // The highest of the `n` entries from `low` on that bears an id, counted from `low`, so that the compiler sees how many there are.
+    fn last_of(&self, low: usize, n: usize, id: u32) -> Option<usize>
+        requires { low + n ≤ self.now.used }
+        ensures { result ≡ highest (λ i. bears_at self.now.medium.now id (entry_at self.now.capacity self.now.number (low + i))) n }
+    {
+        (0..n).rev().find(|&i| {
+            let at = medium::entry_at(self.capacity, self.number, low + i);
+            medium::bears(self.medium, at, id)
+        })
+    }
+
+    // The highest-numbered live entry of an id among the `n` entries from `low` on.
+    fn newest_of(&self, low: usize, n: usize, id: u32) -> Option<usize>
+        requires { low + n ≤ self.now.used }
+        ensures { highest (live self.now.capacity self.now.used self.now.medium.now id self.now.number) (low + n)
+            ≡ option_or result (highest (live self.now.capacity self.now.used self.now.medium.now id self.now.number) low) }
+    {
+        let i = self.last_of(low, n, id)?;
+        Some(low + i)
+    }
+
+    // The highest-numbered live entry of an id in the blocks, which end at the highest entry used. A block without the id's word is passed
+    // over.
+    fn newest_in_blocks(&self, id: u32) -> Option<usize>
+        ensures { highest (live self.now.capacity self.now.used self.now.medium.now id self.now.number) self.now.used
+            ≡ option_or result (highest (live self.now.capacity self.now.used self.now.medium.now id self.now.number) (self.now.used % BLOCK_ENTRIES)) }
     {
         let rest = self.used % BLOCK_ENTRIES;
         for block in (0..self.used / BLOCK_ENTRIES).rev() {
             let low = rest + BLOCK_ENTRIES * block;
             let from = medium::entry_at(self.capacity, self.number, low);
-            if has(self.medium, from, BLOCK_WORDS, id)
-                && bears_some(self.medium, from, BLOCK_ENTRIES, id)
-            {
-                return low + BLOCK_ENTRIES;
+            if has(self.medium, from, BLOCK_WORDS, id) {
+                let found = self.newest_of(low, BLOCK_ENTRIES, id);
+                if found.is_some() {
+                    return found;
+                }
             }
         }
-        rest
+        None
     }
 
-    // The same with groups of entries after the blocks, which are worth it where there are many entries.
-    fn left(&self, id: u32) -> usize
-        ensures few { result ≤ self.now.used }
-        ensures same { highest (live self.now.capacity self.now.used self.now.medium.now id self.now.number) self.now.used
-            ≡ highest (live self.now.capacity self.now.used self.now.medium.now id self.now.number) result }
-    {
-        let mut j = if MANY <= self.used {
-            self.pass_blocks(id)
-        } else {
-            self.used
-        };
-        // A `for` over the groups' numbers was tried: it took 1.4 times as long on servers of 64 to 250 entries.
-        while GROUP <= j {
-            let first = medium::entry_at(self.capacity, self.number, j - GROUP);
-            if bears_some(self.medium, first, GROUP, id) {
-                return j;
-            }
-            j -= GROUP;
-        }
-        j
-    }
-
-    // The highest-numbered live entry of an id.
+    // The highest-numbered live entry of an id: in the blocks, where there are many entries, and then in groups from the highest down.
     pub fn newest(&self, id: u32) -> Option<usize>
         ensures { result ≡ highest (live self.now.capacity self.now.used self.now.medium.now id self.now.number) self.now.used }
     {
-        let entries = self.left(id);
-        (0..entries).rev().find(|&j| medium::bears(
-            self.medium,
-            medium::entry_at(self.capacity, self.number, j),
-            id,
-        ))
+        let mut left = self.used;
+        if MANY <= left {
+            let found = self.newest_in_blocks(id);
+            if found.is_some() {
+                return found;
+            }
+            left %= BLOCK_ENTRIES;
+        }
+        // A `for` over the groups' numbers was tried: it took 1.4 times as long on servers of 64 to 250 entries.
+        while GROUP <= left {
+            left -= GROUP;
+            let found = self.newest_of(left, GROUP, id);
+            if found.is_some() {
+                return found;
+            }
+        }
+        self.newest_of(0, left, id)
     }
 }

@@ -1,33 +1,7 @@
--- `scan::Server::newest` meets its contract: the first entry that bears the id from the highest of those left down.
-use Rattle.std.proofs.Common.{◌<◌, ◌∙◌, sym, arith, rules}
-use borrow.Author.Tests.{tests}
-use Rattle.std.proofs.lemmas.Iterator.Adapters.{serves_from_places, option_map_id}
-use Rattle.std.proofs.lemmas.Iterator.Search.{find_from_yields_List}
-use Rattle.medium.specs.Entry.{entry_at, bears_at}
-use Rattle.lists.proofs.Below.{highest-cong}
-use Rattle.medium.proofs.Entries.{live_below}
-use Rattle.medium.proofs.Places.{entry-inside}
-use Rattle.medium.proofs.Down.{YieldsList-from_rev_range, length-downs, downs-below, find-downs}
+-- `scan::Server::newest` meets its contract: the entries that are left at the end are searched too.
+use Rattle.std.proofs.Common.{sym, ◌∙◌}
+use Rattle.scan.proofs.Passing.{all-searched}
 use Rattle.scan.proofs.Server.newest.Goals as goal
 
-pub find-requires-clause-callable : goal.find-requires-clause-callable
-find-requires-clause-callable c =
-    let a = c.args.self.now in
-    serves_from_places (YieldsList-from_rev_range c.left-entries.result c.rev.ensures.source) (λ x q k. search (rules, tests))
-    (λ x k l e.
-    let below : x < c.left-entries.result = omega (arith, e, downs-below c.left-entries.result k x (omega (arith, length-downs 0 c.left-entries.result))) in
-    let inside = entry-inside a.capacity a.number x 2 a.medium.now a.inside (omega (arith, c.left-entries.ensures.few, a.few)) (omega arith) in
-    let few = c.left-entries.ensures.few in
-    let high = a.few in
-    let small = a.inside.small in
-    let there = a.inside.few in
-    search rules)
-
 pub returns : goal.returns
-returns c =
-    let a = c.args.self.now in
-    sym (option_map_id c.find.result)
-    ∙ find_from_yields_List (λ j. bears_at a.medium.now c.args.id (entry_at a.capacity a.number j)) _ _ c.find.result c.find.ensures.ran (YieldsList-from_rev_range c.left-entries.result c.rev.ensures.source) (λ x b q k. search (rules, tests))
-    ∙ find-downs _ c.left-entries.result
-    ∙ highest-cong _ _ c.left-entries.result (λ j l. sym (live_below a.capacity a.used a.medium.now c.args.id a.number j (omega (arith, c.left-entries.ensures.few))))
-    ∙ sym c.left-entries.ensures.same
+returns c = all-searched _ c.loop-left.left c.newest_of.result c.newest_of.ensures ∙ sym c.loop-left.invariant.1

@@ -1,8 +1,8 @@
--- `scan::Server::pass_blocks` meets its contract. The invariant: the highest live entry is one of those left.
+-- `scan::Server::newest_in_blocks` meets its contract. The invariant: the highest live entry is one of those left.
 use Rattle.std.proofs.Common.{◌≡◌, ◌+◌, ◌*◌}
 use Rattle.lists.specs.Below.{highest}
 use Rattle.medium.specs.Entry.{live}
-use Rattle.scan.proofs.Server.pass_blocks.Given as goal
+use Rattle.scan.proofs.Server.newest_in_blocks.Given as goal
 
 abbrev pub invariant-loop-block : goal.invariant-loop-block
 invariant-loop-block l =
