@@ -39,7 +39,7 @@ use Rattle.recovery.specs.Recovery.{recover_table}
 use Rattle.archive.proofs.Counters.{agree, alike, recover-counters, recover-apart, add_server-counters, reweight-counters, write-counters, add_server-apart, reweight-apart, write-apart, add_server-unread, reweight-unread, write-unread, delete-unread, lookup-unread, batch-unread}
 use Rattle.history.specs.Call.{Call, add_server, reweight, write, delete, lookup, batch, Turn, plain, crashed_write, crashed_delete}
 use Rattle.history.specs.Machine.{State, in_brief, reply, next, crash_write, crash_delete, recovered, turned, after_turns, turn_replies, start_state}
-use Rattle.history.specs.Counters.{opened_to, opened_in_turn, opened_by, Counters, Refused, Apart, Answered, Unread}
+use Rattle.history.specs.Counters.{opened_to, opened_in_turn, opened_by, Counters, left_by, Refused, Apart, Answered, Unread}
 use Rattle.history.proofs.CrashAlike.{same-crash-write, same-crash-delete}
 
 -- one call: a tenant's counter grows by what it is answered
@@ -124,26 +124,35 @@ answered t m caller ids n z = n (ap (λ (b : BatchReply). b.refusal) (settle-yes
 by_rows : (rows : List Row) (done r : Reply) → r ≡ reply_by rows done → done.refusal ≡ 0 → r.refusal ≢ 0 → first_of rows ≢ 0
 by_rows rows done r e d n z = n (ap (λ (x : Reply). x.refusal) (e ∙ reply-done rows z done) ∙ d)
 
--- its table is as lent
+-- its table is as lent, but for what a lookup opened
 abbrev Left : State → Call → Type 0
-Left S c = ((next S c).medium ≡ S.medium) × ((reply S c).opened ≡ 0 → (next S c).table ≡ S.table) × (with_counters (next S c).table S.table.counters ≡ S.table)
+Left S c =
+    ((next S c).medium ≡ S.medium)
+    × ((reply S c).opened ≡ 0 → (next S c).table ≡ S.table)
+    × (with_counters (next S c).table S.table.counters ≡ S.table)
+    × ((next S c).table ≡ left_by S c)
 
-whole : (S : State) (c : Call) → (next S c).medium ≡ S.medium → (next S c).table ≡ S.table → Left S c
-whole S c e f = (e, λ _. f, ap (λ (t : Table). with_counters t S.table.counters) f)
+whole : (S : State) (c : Call) → (next S c).medium ≡ S.medium → (next S c).table ≡ S.table → left_by S c ≡ S.table → Left S c
+whole S c e f g = (e, λ _. f, ap (λ (t : Table). with_counters t S.table.counters) f, f ∙ sym g)
 
 left : (S : State) (c : Call) → (reply S c).refusal ≢ 0 → Left S c
-unfolding reply next add_server_reply add_server_table reweight_reply reweight_table write_reply write_table write_medium delete_reply delete_medium lookup_table with_opened
-left S (add_server weight) n = whole S (add_server weight) refl (settle-no (add_server_rows S.table S.medium weight) _ _ (by_rows _ _ _ refl refl n))
-left S (reweight server weight) n = whole S (reweight server weight) refl (settle-no (reweight_rows S.table server weight) _ _ (by_rows _ _ _ refl refl n))
+unfolding reply next left_by add_server_reply add_server_table reweight_reply reweight_table write_reply write_table write_medium delete_reply delete_medium lookup_table with_opened
+left S (add_server weight) n = whole S (add_server weight) refl (settle-no (add_server_rows S.table S.medium weight) _ _ (by_rows _ _ _ refl refl n)) refl
+left S (reweight server weight) n = whole S (reweight server weight) refl (settle-no (reweight_rows S.table server weight) _ _ (by_rows _ _ _ refl refl n)) refl
 left S (write caller id value) n =
     let f = by_rows (write_rows S.table S.medium caller id value) _ _ refl refl n in
-    whole S (write caller id value) (settle-no _ _ _ f) (settle-no _ _ _ f)
-left S (delete caller id) n = whole S (delete caller id) (settle-no (delete_rows S.table S.medium caller id) _ _ (by_rows _ _ _ refl refl n)) refl
-left S (lookup caller id) n = (refl, λ z. ap (with_opened S.table caller) z ∙ opened-none S.table caller, refl)
-left S (batch caller ids) n = whole S (batch caller ids) refl (batch-left S.table S.medium caller ids (answered S.table S.medium caller ids n))
+    whole S (write caller id value) (settle-no _ _ _ f) (settle-no _ _ _ f) refl
+left S (delete caller id) n = whole S (delete caller id) (settle-no (delete_rows S.table S.medium caller id) _ _ (by_rows _ _ _ refl refl n)) refl refl
+left S (lookup caller id) n = (refl, λ z. ap (with_opened S.table caller) z ∙ opened-none S.table caller, refl, refl)
+left S (batch caller ids) n = whole S (batch caller ids) refl (batch-left S.table S.medium caller ids (answered S.table S.medium caller ids n)) refl
 
 pub refused-keeps : (S : State) (c : Call) → Refused S c
-refused-keeps S c = record { medium = λ n. (left S c n).0; table = λ n. (left S c n).1; others = λ n. (left S c n).2 }
+refused-keeps S c = record {
+  medium = λ n. (left S c n).0;
+  table = λ n. (left S c n).1;
+  others = λ n. (left S c n).2;
+  exact = λ n. (left S c n).3;
+}
 
 -- a state with other counters
 abbrev with-counters : State → List ℕ → State

@@ -34,7 +34,7 @@ use Rattle.history.specs.Beam.{Beam, under_beam}
 use Rattle.history.specs.Call.{crashed_write, crashed_delete}
 use Rattle.history.specs.Machine.{State, crash_write, crash_delete, recovered, turned}
 use Rattle.history.specs.Hearing.{is_at, hear}
-use Rattle.history.specs.Ledger.{Event, wrote, removed, spent, Ledger, used_by, with_event, write_rows_l, delete_rows_l, crashed_write_l, crashed_delete_l, noted, reads_l}
+use Rattle.history.specs.Ledger.{Event, wrote, removed, spent, Ledger, entries_l, used_by, with_event, target_l, write_rows_l, delete_rows_l, crashed_write_l, crashed_delete_l, noted, reads_l}
 use Rattle.history.proofs.Strikes.{struck, length-struck}
 use Rattle.history.proofs.Tops.{TopAt}
 use Rattle.history.proofs.Events.{place_of, Takes, wrote-takes, spent-takes, used-self, wrote_self, removed-self, spent-placed}
@@ -65,18 +65,24 @@ used-on {capacity} {count} {rule} {events} {m} H k l = used_on-is capacity m k (
     (λ p. ap not (H.filled k (used_by events k - 1) l (omega arith)))
 
 module _ {t : Table} {m : List ℕ} {L : Ledger} (A : Agree t m L) where
-  -- recover on a medium that holds some events
+  -- recover on a medium of the same length, of any words
+  module _ (N : List ℕ) (long : length N ≡ length m) where
+    not-refused : first_of (recover_rows t N) ≡ 0
+    unfolding first_of recover_rows short
+    not-refused = rw (A.is_sound, le-ltb (length N) (server_at t.capacity t.count) (omega (arith, long, A.holds.long)))
+
+    recover-accepted : recover_reply t N ≡ accepted
+    unfolding recover_reply
+    recover-accepted = reply-done (recover_rows t N) not-refused accepted
+
+  -- and on one that holds some events
   module _ {events : List Event} {N : List ℕ} (long : length N ≡ length m) (H : Holds t.capacity t.count (reads_l L) events N) where
     abbrev counted : ℕ → ℕ
     counted = used_on t.capacity N
 
-    not-refused : first_of (recover_rows t N) ≡ 0
-    unfolding first_of recover_rows short
-    not-refused = rw (A.is_sound, le-ltb (length N) (server_at t.capacity t.count) H.long)
-
     recover-is : recover_table t N ≡ with_used t counted
     unfolding recover_table
-    recover-is = settle-yes (recover_rows t N) (with_used t counted) t not-refused
+    recover-is = settle-yes (recover_rows t N) (with_used t counted) t (not-refused N long)
 
     recover-agrees : Agree (recover_table t N) N (with_events L events)
     unfolding with_used with_events
@@ -95,9 +101,8 @@ module _ {t : Table} {m : List ℕ} {L : Ledger} (A : Agree t m L) where
 
   -- where nothing crashed it is accepted and changes nothing
   pub recover-idle : (recover_reply t m ≡ accepted) × (recover_table t m ≡ t)
-  unfolding recover_reply
   recover-idle = (
-    reply-done (recover_rows t m) (not-refused refl A.holds) accepted,
+    recover-accepted m refl,
     recover-is refl A.holds
         ∙ with_used-same t (used_on t.capacity m) A.arrays (sound-facts t A.is_sound).few (λ k l. used-on A.holds k l ∙ sym (A.used k l)),
   )
@@ -134,12 +139,19 @@ module _ {t : Table} {m : List ℕ} {L : Ledger} (A : Agree t m L) (tenant id va
   abbrev server : ℕ
   server = target t id
 
-  -- what the ledger hears of the medium N
+  -- of the medium N, whether the target entry is not wholly blank, and whether a lookup meets it; by the table
   abbrev is_touched : List ℕ → Bool
   is_touched N = touched t.capacity N server (used_of t server)
 
   abbrev is_met_there : List ℕ → Bool
   is_met_there N = is_at server (used_of t server) (search_for (recover_table t N) N id).met
+
+  -- and by the ledger, which is what it hears
+  abbrev is_touched_l : List ℕ → Bool
+  is_touched_l N = touched (entries_l L) N (target_l L id) (used_by L.events (target_l L id))
+
+  abbrev is_met_l : List ℕ → Bool
+  is_met_l N = is_at (target_l L id) (used_by L.events (target_l L id)) (search_for (recover_table t N) N id).met
 
   -- a refused one changes nothing
   refused-write : (first_of (write_rows t m tenant id value) ≡ 0 → ⊥) → (b c : Bool) → crashed_write_l L tenant id value b c ≡ L
@@ -153,6 +165,13 @@ module _ {t : Table} {m : List ℕ} {L : Ledger} (A : Agree t m L) (tenant id va
 
     used-is : used_of t server ≡ used_by L.events server
     used-is = A.used server (write-accepted A tenant id value z).there
+
+    -- which are the same
+    touched-l : (N : List ℕ) → is_touched_l N ≡ is_touched N
+    touched-l N = rw (used-is, same_target A id, A.capacity)
+
+    met-l : (N : List ℕ) → is_met_l N ≡ is_met_there N
+    met-l N = rw (used-is, same_target A id)
 
     module _ {N : List ℕ} (long : length N ≡ length m) where
       met_by : {events : List Event} → Holds t.capacity t.count (reads_l L) events N → is_met_there N ≡ is_at server (used_by L.events server) (place_of events id)
@@ -195,16 +214,21 @@ module _ {t : Table} {m : List ℕ} {L : Ledger} (A : Agree t m L) (tenant id va
         settle-yes (write_rows t m tenant id value) _ m z
         ∙ ap (under_beam beam (drop n (write_burns t m id value))) (settle-yes (write_rows t m tenant id value) (burn_all m (take n (write_burns t m id value))) m z)
 
-    write-crashed : Agree (recover_table t write_left) write_left (crashed_write_l L tenant id value (is_touched write_left) (is_met_there write_left))
+    write-long : length write_left ≡ length m
+    write-long = by_bool (eqb (first_of (write_rows t m tenant id value)) 0)
+        (λ d. ap length (write-left (eqb-true (first_of (write_rows t m tenant id value)) 0 d)) ∙ length-struck m (write_burns t m id value) n beam)
+        (λ d. ap length (settle-no (write_rows t m tenant id value) _ m (eqb-false (first_of (write_rows t m tenant id value)) 0 d)))
+
+    write-crashed : Agree (recover_table t write_left) write_left (crashed_write_l L tenant id value (is_touched_l write_left) (is_met_l write_left))
     write-crashed = by_bool (eqb (first_of (write_rows t m tenant id value)) 0)
         (λ d.
         let z = eqb-true (first_of (write_rows t m tenant id value)) 0 d in
         let w = write-accepted A tenant id value z in
         let e = write-left z ∙ ap (λ (bs : List Burn). struck m bs n beam) (write-burns A tenant id value w.there) in
-        write-heard z (ap length e ∙ length-struck m _ n beam) (rw e (write-leaves A.holds w n beam)))
+        rw (touched-l z write_left, met-l z write_left) (write-heard z write-long (rw e (write-leaves A.holds w n beam))))
         (λ d.
         let f = eqb-false (first_of (write_rows t m tenant id value)) 0 d in
-        rw (settle-no (write_rows t m tenant id value) (under_beam beam (drop n (write_burns t m id value)) (write_some_medium t m tenant id value n)) m f) (rw (refused-write f (is_touched m) (is_met_there m)) (idle-agrees A)))
+        rw (settle-no (write_rows t m tenant id value) (under_beam beam (drop n (write_burns t m id value)) (write_some_medium t m tenant id value n)) m f) (rw (refused-write f (is_touched_l m) (is_met_l m)) (idle-agrees A)))
 
 -- a crashed delete
 module _ {t : Table} {m : List ℕ} {L : Ledger} (A : Agree t m L) (tenant id : ℕ) where
@@ -253,6 +277,11 @@ module _ {t : Table} {m : List ℕ} {L : Ledger} (A : Agree t m L) (tenant id : 
         settle-yes (delete_rows t m tenant id) _ m z
         ∙ ap (under_beam beam (drop n (delete_burns t m id))) (settle-yes (delete_rows t m tenant id) (burn_all m (take n (delete_burns t m id))) m z)
 
+    delete-long : length delete_left ≡ length m
+    delete-long = by_bool (eqb (first_of (delete_rows t m tenant id)) 0)
+        (λ d. ap length (delete-left (eqb-true (first_of (delete_rows t m tenant id)) 0 d)) ∙ length-struck m (delete_burns t m id) n beam)
+        (λ d. ap length (settle-no (delete_rows t m tenant id) _ m (eqb-false (first_of (delete_rows t m tenant id)) 0 d)))
+
     delete-crashed : Agree (recover_table t delete_left) delete_left (crashed_delete_l L tenant id (is_gone delete_left))
     delete-crashed = by_bool (eqb (first_of (delete_rows t m tenant id)) 0)
         (λ d.
@@ -260,7 +289,7 @@ module _ {t : Table} {m : List ℕ} {L : Ledger} (A : Agree t m L) (tenant id : 
         let small = accepted-id A id tenant z in
         let e = delete-left z ∙ ap (λ (bs : List Burn). struck m bs n beam) (delete-burns A id) in
         let y = placed z in
-        delete-heard z (ap length e ∙ length-struck m _ n beam) y.0 y.1 (rw e (delete-leaves A.holds id small y.0 y.1 n beam)))
+        delete-heard z delete-long y.0 y.1 (rw e (delete-leaves A.holds id small y.0 y.1 n beam)))
         (λ d.
         let f = eqb-false (first_of (delete_rows t m tenant id)) 0 d in
         rw (settle-no (delete_rows t m tenant id) (under_beam beam (drop n (delete_burns t m id)) (delete_some_medium t m tenant id n)) m f) (rw (refused-delete f (is_gone m)) (idle-agrees A)))
@@ -268,11 +297,22 @@ module _ {t : Table} {m : List ℕ} {L : Ledger} (A : Agree t m L) (tenant id : 
 -- the turns of a list
 module _ (S : State) (L : Ledger) (A : Agree S.table S.medium L) where
   pub crash-write-step : (tenant id value n : ℕ) (beam : Beam)
-      → let x = crashed_write tenant id value n beam in Agree (turned S x).table (turned S x).medium (noted L (hear S x))
+      → let x = crashed_write tenant id value n beam in Agree (turned S x).table (turned S x).medium (noted L (hear S L x))
   unfolding turned recovered crash_write noted hear
   crash-write-step tenant id value n beam = write-crashed A tenant id value n beam
 
   pub crash-delete-step : (tenant id n : ℕ) (beam : Beam)
-      → let x = crashed_delete tenant id n beam in Agree (turned S x).table (turned S x).medium (noted L (hear S x))
+      → let x = crashed_delete tenant id n beam in Agree (turned S x).table (turned S x).medium (noted L (hear S L x))
   unfolding turned recovered crash_delete noted hear
   crash-delete-step tenant id n beam = delete-crashed A tenant id n beam
+
+  -- and the recover made next in each
+  pub crash-write-recovers : (tenant id value n : ℕ) (beam : Beam)
+      → let C = crash_write S tenant id value n beam in recover_reply C.table C.medium ≡ accepted
+  unfolding crash_write
+  crash-write-recovers tenant id value n beam = recover-accepted A _ (write-long A tenant id value n beam)
+
+  pub crash-delete-recovers : (tenant id n : ℕ) (beam : Beam)
+      → let C = crash_delete S tenant id n beam in recover_reply C.table C.medium ≡ accepted
+  unfolding crash_delete
+  crash-delete-recovers tenant id n beam = recover-accepted A _ (delete-long A tenant id n beam)

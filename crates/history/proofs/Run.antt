@@ -73,19 +73,19 @@ step S L A (delete tenant id) = delete-step A id tenant
 step S L A (lookup tenant id) = lookup-step A id tenant
 step S L A (batch tenant ids) = batch-step A tenant ids
 
-pub turn : (S : State) (L : Ledger) → Agrees S L → (x : Turn) → Agrees (turned S x) (noted L (hear S x))
+pub turn : (S : State) (L : Ledger) → Agrees S L → (x : Turn) → Agrees (turned S x) (noted L (hear S L x))
 unfolding turned noted hear
 turn S L A (plain c) = (step S L A c).agrees
 turn S L A (crashed_write tenant id value n beam) = crash-write-step S L A tenant id value n beam
 turn S L A (crashed_delete tenant id n beam) = crash-delete-step S L A tenant id n beam
 
 pub record Ran (S : State) (L : Ledger) (turns : List Turn) : Type 0 where
-  pub alike : map compared (turn_replies S turns) ≡ replies_by L (hears S turns)
-  pub agrees : Agrees (after_turns S turns) (ledger_by L (hears S turns))
+  pub alike : map compared (turn_replies S turns) ≡ replies_by L (hears S L turns)
+  pub agrees : Agrees (after_turns S turns) (ledger_by L (hears S L turns))
 
 -- one turn more, of which a reply is compared where nothing crashed
-one_more : (S : State) (L : Ledger) → Agrees S L → (x : Turn) (turns : List Turn) → Ran (turned S x) (noted L (hear S x)) turns
-    → map compared (turn_replies S (x ∷ turns)) ≡ replies_by L (hears S (x ∷ turns))
+one_more : (S : State) (L : Ledger) → Agrees S L → (x : Turn) (turns : List Turn) → Ran (turned S x) (noted L (hear S L x)) turns
+    → map compared (turn_replies S (x ∷ turns)) ≡ replies_by L (hears S L (x ∷ turns))
 unfolding turn_replies replies_by hears hear
 one_more S L A (plain c) turns r = ap₂ (λ (y : Compared) (l : List Compared). y ∷ l) (step S L A c).alike r.alike
 one_more S L A (crashed_write tenant id value n beam) turns r = r.alike
@@ -95,14 +95,14 @@ pub run : (turns : List Turn) (S : State) (L : Ledger) → Agrees S L → Ran S 
 unfolding turn_replies replies_by after_turns ledger_by hears
 run [] S L A = record { alike = refl; agrees = A }
 run (x ∷ turns) S L A =
-    let r = run turns (turned S x) (noted L (hear S x)) (turn S L A x) in
+    let r = run turns (turned S x) (noted L (hear S L x)) (turn S L A x) in
     record { alike = one_more S L A x turns r; agrees = r.agrees }
 
 -- of a list of calls the ledger hears the calls
-hears-calls : (calls : List Call) (S : State) → hears S (map plain calls) ≡ map heard calls
+hears-calls : (calls : List Call) (S : State) (L : Ledger) → hears S L (map plain calls) ≡ map heard calls
 unfolding hears hear
-hears-calls [] S = refl
-hears-calls (c ∷ calls) S = ap (λ (l : List Heard). heard c ∷ l) (hears-calls calls (turned S (plain c)))
+hears-calls [] S L = refl
+hears-calls (c ∷ calls) S L = ap (λ (l : List Heard). heard c ∷ l) (hears-calls calls (turned S (plain c)) (noted L (heard c)))
 
 pub record RanCalls (S : State) (L : Ledger) (calls : List Call) : Type 0 where
   pub alike : map compared (replies S calls) ≡ ledger_replies L calls
@@ -111,5 +111,5 @@ pub record RanCalls (S : State) (L : Ledger) (calls : List Call) : Type 0 where
 pub run-calls : (calls : List Call) (S : State) (L : Ledger) → Agrees S L → RanCalls S L calls
 run-calls calls S L A =
     let r = run (map plain calls) S L A in
-    let e = hears-calls calls S in
+    let e = hears-calls calls S L in
     record { alike = r.alike ∙ ap (replies_by L) e; agrees = rw e at r.agrees }

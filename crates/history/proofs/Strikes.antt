@@ -13,6 +13,7 @@ use borrow.Author.Tests.{eqb-true, eqb-false}
 use Rattle.limits.specs.Limits.{content_range}
 use Rattle.lists.specs.Below.{nth}
 use Rattle.lists.proofs.Tests.{by_bool}
+use Rattle.words.specs.Word.{tag_of, content_of}
 use Rattle.medium.specs.Word.{blank}
 use Rattle.medium.specs.Burn.{Burn, burn_all}
 use Rattle.medium.proofs.Burns.{length-burn_all}
@@ -25,6 +26,11 @@ struck m bs n beam = under_beam beam (drop n bs) (burn_all m (take n bs))
 pub junk-word : (r : ℕ) → (3 * content_range ≤ junk_word r) × (junk_word r < blank)
 unfolding junk_word
 junk-word r = omega arith
+
+-- and every word of tag 3 that is not blank is junk of some content, so that junk is any such word
+pub junk-every : (w : ℕ) → tag_of w ≡ 3 → w ≢ blank → junk_word (content_of w) ≡ w
+unfolding junk_word
+junk-every w t f = omega (arith, t, f)
 
 junk-blank : (r : ℕ) → junk_word r ≢ blank
 junk-blank r e = omega (arith, junk-word r)

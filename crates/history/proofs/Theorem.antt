@@ -41,7 +41,7 @@ use Rattle.history.proofs.Holds.{write-there}
 use Rattle.history.proofs.Entering.{entered, crashed-write, crashed-delete}
 use Rattle.history.proofs.LookupStep.{last-write-words, lookup-step, looked}
 use Rattle.history.proofs.DeleteStep.{accepted-id, same_rows}
-use Rattle.history.proofs.CrashSteps.{recover-idle}
+use Rattle.history.proofs.CrashSteps.{recover-idle, crash-write-recovers, crash-delete-recovers}
 use Rattle.history.proofs.Batches.{same-batch}
 use Rattle.history.proofs.Run.{Agrees, begin-agrees, turn, run}
 use Rattle.history.proofs.Never.{never}
@@ -258,5 +258,7 @@ demand3 capacity salt n z turns =
       delete_shows = delete-shows S L A;
       write_others = write-others S L A;
       delete_others = delete-others S L A;
+      write_recovers = crash-write-recovers S L A;
+      delete_recovers = crash-delete-recovers S L A;
       idle = idle S L A;
     }

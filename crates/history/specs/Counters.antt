@@ -2,8 +2,10 @@
 -- a refused call changes, and that no call answers by a counter.
 use Rattle.std.specs.Prelude.{ℕ, ◌+◌, ◌<◌, min, true, cond, ◌≡◌, ◌≢◌, List, [], ◌∷◌, eqb}
 use Rattle.limits.specs.Limits.{tenants, max_counter}
+use Rattle.table.specs.declared.Table.{Table}
 use Rattle.table.specs.Parts.{with_counters, opened_of}
 use Rattle.table.specs.Sound.{sound}
+use Rattle.upkeep.specs.Upkeep.{with_opened}
 use Rattle.lookup.specs.Lookup.{lookup_reply}
 use Rattle.batch_answer.specs.Answer.{opened_in}
 use Rattle.batch.specs.Batch.{batch_reply}
@@ -35,11 +37,21 @@ pub record Counters (capacity salt : ℕ) (m : List ℕ) (turns : List Turn) : T
   pub counter : (tenant : ℕ) → tenant < tenants
       → opened_of (after_turns (start_state capacity salt m) turns).table tenant ≡ min max_counter (opened_by tenant (start_state capacity salt m) turns)
 
+-- the table that a refused call leaves: a lookup counts for its caller the servers that it opened; every other call leaves it as lent
+unfoldable pub left_by : State → Call → Table
+left_by S (add_server weight) = S.table
+left_by S (reweight server weight) = S.table
+left_by S (write caller id value) = S.table
+left_by S (delete caller id) = S.table
+left_by S (lookup caller id) = with_opened S.table caller (lookup_reply S.table S.medium caller id).opened
+left_by S (batch caller ids) = S.table
+
 -- a refused call leaves medium and table as lent, but for the counters where it is a lookup that opened servers
 pub record Refused (S : State) (c : Call) : Type 0 where
   pub medium : (reply S c).refusal ≢ 0 → (next S c).medium ≡ S.medium
   pub table : (reply S c).refusal ≢ 0 → (reply S c).opened ≡ 0 → (next S c).table ≡ S.table
   pub others : (reply S c).refusal ≢ 0 → with_counters (next S c).table S.table.counters ≡ S.table
+  pub exact : (reply S c).refusal ≢ 0 → (next S c).table ≡ left_by S c
 
 -- two states that differ in the counters alone
 pub record Apart (S T : State) : Type 0 where

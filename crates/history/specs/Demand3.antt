@@ -13,9 +13,9 @@ use Rattle.batch.specs.Batch.{batch_reply}
 use Rattle.recovery.specs.Recovery.{recover_reply}
 use Rattle.history.specs.Beam.{Beam}
 use Rattle.history.specs.Call.{Call, batch, Turn, plain, crashed_write, crashed_delete, Heard, compared}
-use Rattle.history.specs.Machine.{State, refusals, recovered, turned, after_turns, turn_replies, begin, live_entries}
+use Rattle.history.specs.Machine.{State, refusals, crash_write, crash_delete, recovered, turned, after_turns, turn_replies, begin, live_entries}
 use Rattle.history.specs.Hearing.{hears}
-use Rattle.history.specs.Ledger.{Event, wrote, removed, spent, Ledger, fresh_ledger, used_by, batch_l, ledger_by, replies_by, writes_by}
+use Rattle.history.specs.Ledger.{Event, wrote, removed, spent, Ledger, fresh_ledger, entries_l, used_by, batch_l, ledger_by, replies_by, writes_by}
 
 -- none of these events is of the id
 unfoldable pub untouched : ℕ → List Event → Bool
@@ -34,7 +34,7 @@ pub record LastWrite (events : List Event) (id value server : ℕ) : Type 0 wher
 -- entry j of a server that is there has the id and the value of a write
 pub record OnMedium (state : State) (ledger : Ledger) (id value server j : ℕ) : Type 0 where
   pub there : server < ledger.servers
-  pub inside : j < ledger.capacity
+  pub inside : j < entries_l ledger
   pub id_there : nth state.medium (entry_at ledger.capacity server j) ≡ id_word id
   pub value_there : nth state.medium (value_at ledger.capacity server j) ≡ value_word value
 
@@ -48,7 +48,7 @@ module _ (capacity salt n : ℕ) (turns : List Turn) where
   state_then = after_turns (begin capacity salt n) turns
 
   abbrev pub heard_then : List Heard
-  heard_then = hears (begin capacity salt n) turns
+  heard_then = hears (begin capacity salt n) (fresh_ledger capacity salt n) turns
 
   abbrev pub ledger_then : Ledger
   ledger_then = ledger_by (fresh_ledger capacity salt n) heard_then
@@ -117,5 +117,10 @@ module _ (capacity salt n : ℕ) (turns : List Turn) where
         → looked_up_in (write_crashed tenant id value burns beam) other ≡ looked_up other
     pub delete_others : (tenant id burns : ℕ) (beam : Beam) (other : ℕ) → other ≢ id
         → looked_up_in (delete_crashed tenant id burns beam) other ≡ looked_up other
+    -- the recover made next after one crash more is accepted
+    pub write_recovers : (tenant id value burns : ℕ) (beam : Beam)
+        → let C = crash_write state tenant id value burns beam in recover_reply C.table C.medium ≡ accepted
+    pub delete_recovers : (tenant id burns : ℕ) (beam : Beam)
+        → let C = crash_delete state tenant id burns beam in recover_reply C.table C.medium ≡ accepted
     -- a recover where nothing crashed since the last one is accepted and changes nothing
     pub idle : (recover_reply state.table state.medium ≡ accepted) × (recovered state ≡ state)

@@ -1,6 +1,7 @@
 -- The plain ledger (document 01, "The plain ledger"; document 02, items 2, 4 and 7). It is fed the capacity, the salt, the medium's
--- length and the calls' arguments, and nothing from table or medium but, for crashed calls only, what `Heard` has; of the archive it shares the published rule, which of two
--- fractions is kept (`raise`), whose an id is, and how rows of refusals and the parts of a batch are put together.
+-- length and the calls' arguments, and nothing from table or medium but, for crashed calls only, what `Heard` has; of the archive it
+-- shares the published rule, which of two fractions is kept (`raise`), whose an id is, and how rows of refusals and the parts of a
+-- batch are put together.
 use Rattle.std.specs.Prelude.{ℕ, suc, ◌+◌, ◌-◌, ◌*◌, Bool, true, false, cond, not, ◌&&◌, ◌||◌, List, [], ◌∷◌, ◌++◌, map, length, leb, ltb, eqb, Option, None, Some}
 use Rattle.limits.specs.Limits.{max_servers, content_range}
 use Rattle.lists.specs.Below.{nth, count_below}
@@ -191,38 +192,12 @@ unfoldable pub last_write_reply : Ledger → ℕ → Option Version → Compared
 last_write_reply L id None = told 8 0 0 (opened_from L id 0)
 last_write_reply L id (Some x) = told 0 0 x.value (opened_from L id x.server)
 
--- a lookup changes nothing
-abbrev pub lookup_l : Ledger → ℕ → ℕ → Entered
-lookup_l L tenant id = enter_by L (lookup_rows_l L tenant id) (record { reply = last_write_reply L id (last_write_of L.events id); ledger = L })
-
--- a batch of lookups, which changes nothing: the replies of its lookups, and the servers that they open
-
--- the lowest server that a lookup of the id may open
-unfoldable pub lowest_l : Option Version → ℕ
-lowest_l None = 0
-lowest_l (Some x) = x.server
-
-unfoldable pub opens_l : Ledger → ℕ → ℕ → ℕ → Bool
-opens_l L tenant id k = settle (lookup_rows_l L tenant id) (leb (lowest_l (last_write_of L.events id)) k && reads_l L id k) false
-
-unfoldable pub opened_at_l : Ledger → ℕ → List ℕ → ℕ → ℕ → Bool
-opened_at_l L tenant ids i k = opens_l L tenant (nth ids i) k
+-- batch
 
 unfoldable pub batch_rows_l : List ℕ → List Row
 batch_rows_l ids = 2 when too_long ids ∷ []
 
-unfoldable pub batch_l : Ledger → ℕ → List ℕ → BatchReply
-batch_l L tenant ids =
-    settled_batch (batch_rows_l ids)
-    (batch_by
-    (λ i. (lookup_l L tenant (nth ids i)).reply.refusal)
-    (λ i. (lookup_l L tenant (nth ids i)).reply.value)
-    (λ i. (lookup_l L tenant (nth ids i)).reply.opened)
-    (opened_at_l L tenant ids)
-    (length ids)
-    L.servers)
-
--- each call: its rows of refusals, and what it makes of the ledger where none applies
+-- each call: its rows of refusals, and what it makes of the ledger where none applies; a lookup and a batch change nothing
 
 unfoldable pub rows_of : Ledger → Call → List Row
 rows_of L (add_server weight) = add_server_rows_l L weight
@@ -244,6 +219,33 @@ done_of L (batch tenant ids) = record { reply = told 0 0 0 0; ledger = L }
 
 unfoldable pub enter : Ledger → Call → Entered
 enter L c = enter_by L (rows_of L c) (done_of L c)
+
+-- a batch's whole answer: the replies of its lookups, and the servers that they open
+
+abbrev pub lookup_l : Ledger → ℕ → ℕ → Entered
+lookup_l L tenant id = enter L (lookup tenant id)
+
+-- the lowest server that a lookup of the id may open
+unfoldable pub lowest_l : Option Version → ℕ
+lowest_l None = 0
+lowest_l (Some x) = x.server
+
+unfoldable pub opens_l : Ledger → ℕ → ℕ → ℕ → Bool
+opens_l L tenant id k = settle (lookup_rows_l L tenant id) (leb (lowest_l (last_write_of L.events id)) k && reads_l L id k) false
+
+unfoldable pub opened_at_l : Ledger → ℕ → List ℕ → ℕ → ℕ → Bool
+opened_at_l L tenant ids i k = opens_l L tenant (nth ids i) k
+
+unfoldable pub batch_l : Ledger → ℕ → List ℕ → BatchReply
+batch_l L tenant ids =
+    settled_batch (batch_rows_l ids)
+    (batch_by
+    (λ i. (lookup_l L tenant (nth ids i)).reply.refusal)
+    (λ i. (lookup_l L tenant (nth ids i)).reply.value)
+    (λ i. (lookup_l L tenant (nth ids i)).reply.opened)
+    (opened_at_l L tenant ids)
+    (length ids)
+    L.servers)
 
 -- A crashed call: the ledger takes the outcome shown as having happened. A crashed write whose entry a lookup meets is a write; else
 -- an entry that is not wholly blank is spent. A crashed delete after which a lookup meets none is a delete
