@@ -20,7 +20,7 @@ use Rattle.replies.specs.declared.Refusal.{Refusal}
 use Rattle.replies.specs.Reply.{number_of}
 use Rattle.lookup.proofs.Counting.{opened-none}
 use Rattle.batch_answer.specs.declared.Batch.{Batch}
-use Rattle.batch_answer.specs.Answer.{BatchReply, opened_of, reply_of_batch, batch_by, refused_batch, opened_in, settled_batch}
+use Rattle.batch_answer.specs.Answer.{BatchReply, opened_counts_of, reply_of_batch, batch_by, refused_batch, opened_in, settled_batch}
 use Rattle.batch_answer.proofs.Filled.{filled-total}
 use Rattle.batch.specs.Batch.{batch_rows, batch_reply, batch_table}
 use Rattle.batch.proofs.BatchParts.{batch-accepted}
@@ -56,10 +56,10 @@ module _ (t : Table) (m : List ℕ) (tenant : ℕ) (ids : List ℕ) where
     left-as-lent {r} f = sym (refused-left r (sym (ap reply_of_batch f) ∙ e))
 
     module _ {b : Batch} (f : a ≡ Ok b) where
-      answered : opened_of b.answers ≡ (batch_reply t m tenant ids).opened
+      answered : opened_counts_of b.answers ≡ (batch_reply t m tenant ids).opened
       unfolding reply_of_batch
       answered = ap (λ (x : BatchReply). x.opened) (sym (ap reply_of_batch f) ∙ e)
 
-      pub counted-whole : {opened : ℕ} → opened ≡ total (nth (opened_of b.answers)) max_ids → with_opened t tenant opened ≡ batch_table t m tenant ids
+      pub counted-whole : {opened : ℕ} → opened ≡ total (nth (opened_counts_of b.answers)) max_ids → with_opened t tenant opened ≡ batch_table t m tenant ids
       unfolding batch_table opened_in
       counted-whole o = ap (with_opened t tenant) (o ∙ ap (λ (xs : List ℕ). total (nth xs) max_ids) answered)

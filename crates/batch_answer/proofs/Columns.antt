@@ -12,7 +12,7 @@ use Rattle.replies.specs.declared.Reply.{Reply}
 use Rattle.replies.specs.declared.LookupAnswer.{LookupAnswer}
 use Rattle.replies.specs.Reply.{found_or, reply_of_lookup}
 use Rattle.replies.proofs.Distinct.{lookup_opened}
-use Rattle.batch_answer.specs.Answer.{column, opened_of}
+use Rattle.batch_answer.specs.Answer.{column, opened_counts_of}
 
 module _ (part : Reply → ℕ) where
   pub length-column : (answers : List LookupAnswer) → length (column part answers) ≡ length answers
@@ -39,21 +39,21 @@ module _ (answers : List LookupAnswer) (long : length answers ≡ 256) where
   abbrev opened : LookupAnswer → ℕ
   opened a = a.opened
 
-  pub opened_map : map opened answers ≡ opened_of answers
+  pub opened_map : map opened answers ≡ opened_counts_of answers
   unfolding column
   opened_map = ap (λ (f : LookupAnswer → ℕ). map f answers) (λ k a. sym (lookup_opened a) k)
 
-  pub opened_sum : sum (map opened answers) ≡ total (nth (opened_of answers)) 256
+  pub opened_sum : sum (map opened answers) ≡ total (nth (opened_counts_of answers)) 256
   opened_sum =
-      let whole : 256 ≡ length (opened_of answers) = omega (arith, length-column (λ r. r.opened) answers, long) in
-      rw opened_map (sym (total-sum (opened_of answers) 256 (omega (arith, whole)) ∙ ap sum (take_all 256 (opened_of answers) (omega (arith, whole)))))
+      let whole : 256 ≡ length (opened_counts_of answers) = omega (arith, length-column (λ r. r.opened) answers, long) in
+      rw opened_map (sym (total-sum (opened_counts_of answers) 256 (omega (arith, whole)) ∙ ap sum (take_all 256 (opened_counts_of answers) (omega (arith, whole)))))
 
   -- each has 32 bits, so that their sum fits
   pub sum_fits : All (λ (a : LookupAnswer). a.opened < 4294967296) answers → sum (map opened answers) < 18446744073709551616
   unfolding reply_of_lookup found_or
-  sum_fits few = omega (arith, opened_sum, total-le (nth (opened_of answers)) 4294967296 256 at-most)
+  sum_fits few = omega (arith, opened_sum, total-le (nth (opened_counts_of answers)) 4294967296 256 at-most)
     where
-      at-most : (i : ℕ) → i < 256 → nth (opened_of answers) i ≤ 4294967296
+      at-most : (i : ℕ) → i < 256 → nth (opened_counts_of answers) i ≤ 4294967296
       at-most i l =
           let d : LookupAnswer = record { value = Ok 0; opened = 0 } in
           omega (arith, column-at (λ r. r.opened) answers i d refl, lookup_opened (get_or answers i d), All-get_or (λ (a : LookupAnswer). a.opened < 4294967296) answers i d (omega (arith, long)) few)

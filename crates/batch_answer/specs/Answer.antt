@@ -109,8 +109,8 @@ refusals_of answers = column (λ r. r.refusal) answers
 abbrev pub values_of : List LookupAnswer → List ℕ
 values_of answers = column (λ r. r.value) answers
 
-abbrev pub opened_of : List LookupAnswer → List ℕ
-opened_of answers = column (λ r. r.opened) answers
+abbrev pub opened_counts_of : List LookupAnswer → List ℕ
+opened_counts_of answers = column (λ r. r.opened) answers
 
 -- the answer in numbers, of a list that is answered id by id and of one that is refused as a whole
 unfoldable pub reply_of_batch : Result Batch Refusal → BatchReply
@@ -119,7 +119,7 @@ reply_of_batch (Ok b) = record {
   mounts = b.mounts;
   refusals = refusals_of b.answers;
   values = values_of b.answers;
-  opened = opened_of b.answers;
+  opened = opened_counts_of b.answers;
   order = b.order;
 }
 reply_of_batch (Err r) = refused_batch (number_of r)

@@ -30,11 +30,11 @@ pub struct Batch {
 }
 
 impl Batch {
-    ghost use Rattle.batch_answer.specs.Answer.{opened_of};
+    ghost use Rattle.batch_answer.specs.Answer.{opened_counts_of};
 
     // How many servers the lookups opened, each counted for itself.
     pub fn opened(&self) -> usize
-        ensures { result ≡ total (nth (opened_of self.now.answers)) max_ids }
+        ensures { result ≡ total (nth (opened_counts_of self.now.answers)) max_ids }
     {
         self.answers.iter().map(|answer| answer.opened).sum()
     }

@@ -5,28 +5,40 @@ use mathlib.Core.Path.{◌≡◌, refl, sym, ap, ◌∙◌}
 use mathlib.Core.Bool.{Bool, true, false, cond, ◌&&◌, and-true, and-false}
 use mathlib.Core.List.{List}
 use Rattle.std.specs.Prelude.{Option, None, Some}
+use Rattle.std.specs.Option.{option_or}
+use Rattle.std.specs.List.{list_any, range_with_len}
+use Rattle.std.proofs.lemmas.List.{take_all}
+use Rattle.std.proofs.lemmas.List.FromFn.{length-range_with_len, get_or-range_with_len}
 use native.Mathlib.Omega.{arith}
-use lib.ListN.{length, get_or}
+use lib.ListN.{length, get_or, take}
 use lib.Dec.{eqb}
 use borrow.Author.Tests.{eqb-true, eq-eqb}
 use Rattle.lists.specs.Below.{nth, highest, some_below}
 use Rattle.lists.proofs.Tests.{by_bool, true-not-false}
-use Rattle.lists.proofs.Below.{highest-last, highest-cong, highest-below, some_below-out}
+use Rattle.lists.proofs.Below.{highest-last, highest-cong, highest-below, some_below-out, some_below-cong}
+use Rattle.lists.proofs.Listed.{some_below-take}
 use Rattle.medium.specs.Word.{blank}
 use Rattle.medium.specs.Entry.{entry_words, mark_place, server_at, entry_at, bears_at, live}
 use Rattle.medium.proofs.Entries.{live_below}
-use Rattle.batch_scan.specs.Scan.{slot_of, is_set, Covers, met_by, met_or, newest_at, Met, bearing, Passed, NewestOf}
+use Rattle.batch_scan.specs.Scan.{slot_of, is_set, Covers, newest_after, newest_at, EntryMet, bearing, Passed, NewestOf}
+
+-- a test of the numbers below n, one after another
+pub some-numbers : (p : ℕ → Bool) (n : ℕ) → list_any p (range_with_len 0 n) ≡ some_below p n
+some-numbers p n =
+    let whole : take n (range_with_len 0 n) ≡ range_with_len 0 n = take_all n _ (omega (arith, length-range_with_len 0 n)) in
+    ap (list_any p) (sym whole)
+    ∙ sym (some_below-take p (range_with_len 0 n) n (omega (arith, length-range_with_len 0 n)))
+    ∙ some_below-cong _ p n (λ k l. let e : nth (range_with_len 0 n) k ≡ k = omega (arith, get_or-range_with_len 0 n k 0 l) in ap p e)
 
 -- an entry that bears the id is met if none was met before
-met_next : (b : Bool) (entry : ℕ) (newest left : Option ℕ) → met_or (met_by b entry newest) left ≡ met_or newest (cond b (Some entry) left)
-unfolding met_by met_or
+met_next : (b : Bool) (entry : ℕ) (newest left : Option ℕ) → option_or (newest_after b entry newest) left ≡ option_or newest (cond b (Some entry) left)
+unfolding newest_after
 met_next true entry None left = refl
 met_next false entry None left = refl
 met_next b entry (Some met) left = refl
 
 -- no entry is left
-met_all : (newest : Option ℕ) → met_or newest None ≡ newest
-unfolding met_or
+met_all : (newest : Option ℕ) → option_or newest None ≡ newest
 met_all None = refl
 met_all (Some met) = refl
 
@@ -63,10 +75,10 @@ module _ (m : List ℕ) (base : ℕ) (ids : List ℕ) (n : ℕ) where
     unfolding is_set
     passed_over filter c x s e d = record {
       long = refl;
-      each = λ i b. ap (met_or (newest_at x i)) (sym (highest-last (bearing m base (nth ids i)) j false l (not-borne a (j - 1) place filter c (rw e at d) i b)));
+      each = λ i b. ap (option_or (newest_at x i)) (sym (highest-last (bearing m base (nth ids i)) j false l (not-borne a (j - 1) place filter c (rw e at d) i b)));
     }
 
-    pub passed-met : (x y : List (Option ℕ)) → nth m (a + mark_place) ≡ blank → Met (nth m a) (j - 1) ids n x y → Passed m base ids n (j - 1) j x y
+    pub passed-met : (x y : List (Option ℕ)) → nth m (a + mark_place) ≡ blank → EntryMet (nth m a) (j - 1) ids n x y → Passed m base ids n (j - 1) j x y
     passed-met x y mark met = record {
       long = met.long;
       each = λ i b.
@@ -80,7 +92,7 @@ module _ (m : List ℕ) (base : ℕ) (ids : List ℕ) (n : ℕ) where
       → some_below (λ k. is_set filter (nth m (a + entry_words * k))) size ≡ false → Passed m base ids n low (low + size) x x
   passed-block filter c size low a x place d = record {
     long = refl;
-    each = λ i b. ap (met_or (newest_at x i)) (sym (highest-below (bearing m base (nth ids i)) (low + size) low (omega arith) (λ k f t. none-borne i b k f t)));
+    each = λ i b. ap (option_or (newest_at x i)) (sym (highest-below (bearing m base (nth ids i)) (low + size) low (omega arith) (λ k f t. none-borne i b k f t)));
   }
     where
       none-borne : (i : ℕ) → i < n → (k : ℕ) → low ≤ k → k < low + size → bearing m base (nth ids i) k ≡ false
@@ -95,7 +107,7 @@ bearing-live capacity used m id k base j place b = rw place (sym (live_below cap
 -- all entries of a server were passed for the ids, and none had met one before
 pub newest-all : (capacity used : ℕ) (m ids : List ℕ) (k base : ℕ) (x y : List (Option ℕ)) → base ≡ server_at capacity k → ((i : ℕ) → i < length ids → newest_at x i ≡ None)
     → Passed m base ids (length ids) 0 used x y → NewestOf capacity used m ids k y
-unfolding highest met_or
+unfolding highest
 newest-all capacity used m ids k base x y place none p = record {
   each = λ i l. sym (met_all (newest_at y i)) ∙ p.each i l
       ∙ rw (none i l) (highest-cong (bearing m base (nth ids i)) (live capacity used m (nth ids i) k) used (λ j b. bearing-live capacity used m (nth ids i) k base j place b));

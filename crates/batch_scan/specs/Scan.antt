@@ -1,5 +1,6 @@
 -- One pass over the entries of a server for several ids, for the contracts of the functions that make it.
 use Rattle.std.specs.Prelude.{ℕ, ◌+◌, ◌*◌, ◌%◌, ◌≤◌, ◌<◌, ◌≡◌, Bool, true, false, cond, List, length, get_or, eqb, Option, None, Some}
+use Rattle.std.specs.Option.{option_or}
 use Rattle.lists.specs.Below.{nth, highest}
 use Rattle.medium.specs.Entry.{entry_words, bears_at, live}
 
@@ -11,8 +12,8 @@ abbrev pub slot_of : ℕ → ℕ
 slot_of word = word % slots
 
 -- the entries that are tested together
-abbrev pub block : ℕ
-block = 8
+abbrev pub tested_entries : ℕ
+tested_entries = 8
 
 -- the slot of a word is set
 unfoldable pub is_set : List Bool → ℕ → Bool
@@ -23,23 +24,18 @@ pub record Covers (filter : List Bool) (ids : List ℕ) (n : ℕ) : Type 0 where
   pub set_at : (i : ℕ) → i < n → is_set filter (nth ids i) ≡ true
 
 -- an id's newest entry so far, and the entry that is next: `bears` says whether that bears the id
-unfoldable pub met_by : Bool → ℕ → Option ℕ → Option ℕ
-met_by bears entry None = cond bears (Some entry) None
-met_by bears entry (Some met) = Some met
-
--- an id's newest entry so far, or else what the entries left give
-unfoldable pub met_or : Option ℕ → Option ℕ → Option ℕ
-met_or None left = left
-met_or (Some entry) left = Some entry
+unfoldable pub newest_after : Bool → ℕ → Option ℕ → Option ℕ
+newest_after bears entry None = cond bears (Some entry) None
+newest_after bears entry (Some met) = Some met
 
 -- the newest entry so far of the id at position i
 abbrev pub newest_at : List (Option ℕ) → ℕ → Option ℕ
 newest_at newest i = get_or newest i None
 
 -- an entry that has no mark and this word was met for each of the first n ids, and for no other
-pub record Met (word entry : ℕ) (ids : List ℕ) (n : ℕ) (before after : List (Option ℕ)) : Type 0 where
+pub record EntryMet (word entry : ℕ) (ids : List ℕ) (n : ℕ) (before after : List (Option ℕ)) : Type 0 where
   pub long : length after ≡ length before
-  pub each : (i : ℕ) → i < n → newest_at after i ≡ met_by (eqb word (nth ids i)) entry (newest_at before i)
+  pub each : (i : ℕ) → i < n → newest_at after i ≡ newest_after (eqb word (nth ids i)) entry (newest_at before i)
   pub rest : (i : ℕ) → n ≤ i → newest_at after i ≡ newest_at before i
 
 -- entry j of the server that begins at an address bears an id
@@ -51,7 +47,7 @@ bearing m base id j = bears_at m id (base + entry_words * j)
 pub record Passed (m : List ℕ) (base : ℕ) (ids : List ℕ) (n low high : ℕ) (before after : List (Option ℕ)) : Type 0 where
   pub long : length after ≡ length before
   pub each : (i : ℕ) → i < n
-      → met_or (newest_at after i) (highest (bearing m base (nth ids i)) low) ≡ met_or (newest_at before i) (highest (bearing m base (nth ids i)) high)
+      → option_or (newest_at after i) (highest (bearing m base (nth ids i)) low) ≡ option_or (newest_at before i) (highest (bearing m base (nth ids i)) high)
 
 -- each of the ids has its highest-numbered live entry on server k, if it has one there
 pub record NewestOf (capacity used : ℕ) (m ids : List ℕ) (k : ℕ) (newest : List (Option ℕ)) : Type 0 where

@@ -6,7 +6,7 @@ ghost use Rattle.std.specs.Prelude.{◌≡◌, ◌+◌, ◌*◌, ◌≤◌, leng
 ghost use Rattle.limits.specs.Limits.{max_capacity};
 ghost use Rattle.lists.specs.Below.{nth, some_below};
 ghost use Rattle.medium.specs.Entry.{entry_words};
-ghost use Rattle.batch_scan.specs.Scan.{slots, slot_of, block, is_set, Covers, met_by, Met, Passed, NewestOf};
+ghost use Rattle.batch_scan.specs.Scan.{slots, slot_of, tested_entries, is_set, Covers, newest_after, EntryMet, Passed, NewestOf};
 
 use limits::{Ids, MAX_IDS};
 use medium::{BLANK, ENTRY_WORDS, MARK_PLACE};
@@ -16,7 +16,7 @@ use scan::Server;
 const SLOTS: usize = 4096;
 
 // The entries that are tested together.
-const BLOCK: usize = 8;
+const TESTED_ENTRIES: usize = 8;
 
 // The slot of an id's word.
 fn slot(word: u32) -> usize
@@ -36,9 +36,9 @@ fn fill(filter: &mut [bool; SLOTS], ids: &[u32])
 }
 
 // What an id's newest entry so far becomes at an entry that has no mark: the entry is met if it bears the id and none was met before.
-#[tactic(auto, unfolding(crate::specs::Scan::met_by))]
+#[tactic(auto, unfolding(crate::specs::Scan::newest_after))]
 fn meet_one(word: u32, id: u32, newest: Option<u32>, entry: u32) -> Option<u32>
-    ensures { result ≡ met_by (eqb word id) entry newest }
+    ensures { result ≡ newest_after (eqb word id) entry newest }
 {
     if newest.is_none() && word == id {
         Some(entry)
@@ -49,7 +49,7 @@ fn meet_one(word: u32, id: u32, newest: Option<u32>, entry: u32) -> Option<u32>
 
 // Meets an entry without a mark, which has this id's word, for each of the ids.
 fn meet(newest: &mut [Option<u32>; MAX_IDS], ids: &Ids<'_>, word: u32, entry: u32)
-    ensures { Met word entry ids.now.all.now (length ids.now.all.now) newest.old newest.new }
+    ensures { EntryMet word entry ids.now.all.now (length ids.now.all.now) newest.old newest.new }
 {
     // Counted, and no `zip`, as image_reader says.
     for (i, id) in ids.all.iter().enumerate() {
@@ -69,10 +69,10 @@ struct Sought<'a> {
 impl Sought<'_> {
     // Whether the slot of one of the entries of a block is set. The block begins at an address.
     fn touches(&self, medium: &[u32], at: usize) -> bool
-        requires { at + entry_words * block ≤ length medium.now }
-        ensures { result ≡ some_below (λ j. is_set self.now.filter.now (nth medium.now (at + entry_words * j))) block }
+        requires { at + entry_words * tested_entries ≤ length medium.now }
+        ensures { result ≡ some_below (λ j. is_set self.now.filter.now (nth medium.now (at + entry_words * j))) tested_entries }
     {
-        (0..BLOCK).any(|j| self.filter[slot(medium[at + ENTRY_WORDS * j])])
+        (0..TESTED_ENTRIES).any(|j| self.filter[slot(medium[at + ENTRY_WORDS * j])])
     }
 
     // Passes the entries from `high` down to `low` of the server that begins at an address. An entry whose slot is not set bears none
@@ -112,11 +112,11 @@ impl Sought<'_> {
         requires used_in_bounds { base + entry_words * used ≤ length medium.now }
         ensures { Passed medium.now base self.now.ids.now.all.now (length self.now.ids.now.all.now) 0 used newest.old newest.new }
     {
-        let rest = used % BLOCK;
-        for b in (0..used / BLOCK).rev() {
-            let low = rest + BLOCK * b;
+        let rest = used % TESTED_ENTRIES;
+        for b in (0..used / TESTED_ENTRIES).rev() {
+            let low = rest + TESTED_ENTRIES * b;
             if self.touches(medium, base + ENTRY_WORDS * low) {
-                self.pass(newest, medium, base, low, low + BLOCK);
+                self.pass(newest, medium, base, low, low + TESTED_ENTRIES);
             }
         }
         self.pass(newest, medium, base, 0, rest);

@@ -34,7 +34,7 @@ use Rattle.replies.proofs.Refusals.{settle-yes, settle-no, passed}
 use Rattle.lookup.specs.Lookup.{lookup_reply}
 use Rattle.lookup.proofs.Plain.{lookup-plain}
 use Rattle.batch_answer.specs.declared.Batch.{Batch}
-use Rattle.batch_answer.specs.Answer.{BatchReply, opened_of, reply_of_batch, order, batch_by, too_long, refused_batch, settled_batch}
+use Rattle.batch_answer.specs.Answer.{BatchReply, opened_counts_of, reply_of_batch, order, batch_by, too_long, refused_batch, settled_batch}
 use Rattle.batch_answer.proofs.Filled.{filled_at}
 use Rattle.batch_answer.proofs.Orders.{mounts-few}
 use Rattle.batch.specs.Batch.{opened_at, batch_rows, batch_reply}
@@ -190,7 +190,7 @@ module _ (table m : List ℕ) (tenant : ℕ) (ids replies order mounts : List �
     unfolding batch_stored reply_of_batch
     batch-refused {r} f = rw (stored, f, ne_eqb (number_of r) 0 (number-not-zero r)) (refl, (refl, (refl, (refl, refl))))
 
-    pub batch-done : {b : Batch} → a ≡ Ok b → length b.order ≡ 256 → (opened : ℕ) → opened ≡ total (nth (opened_of b.answers)) max_ids → (table' replies' order' mounts' : List ℕ)
+    pub batch-done : {b : Batch} → a ≡ Ok b → length b.order ≡ 256 → (opened : ℕ) → opened ≡ total (nth (opened_counts_of b.answers)) max_ids → (table' replies' order' mounts' : List ℕ)
         → table' ≡ with_table table (with_opened (table_from table) tenant opened)
         → replies' ≡ with_replies (lookup_part b.answers) (length ids) replies → order' ≡ set_below (nth (take (length ids) b.order)) (length (take (length ids) b.order)) order → mounts' ≡ set mounts 0 b.mounts
         → Done table m tenant ids replies order mounts 0 table' replies' order' mounts'

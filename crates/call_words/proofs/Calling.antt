@@ -24,7 +24,7 @@ use Rattle.calls.specs.Numbered.{on_servers, is_write}
 use Rattle.replies.specs.declared.Reply.{Reply}
 use Rattle.history.specs.Machine.{State}
 use Rattle.encoding.specs.Encoding.{call_length, reply_length, with_reply_at}
-use Rattle.dispatch.specs.OneCall.{reply_to, next_by, used_after, counters_after, with_used}
+use Rattle.dispatch.specs.OneCall.{reply_to, next_by, used_after, counters_after, with_counts}
 use Rattle.dispatch.proofs.Calling.{counts, counted-table}
 use Rattle.call_words.proofs.Kept.{call-count, length-stored, stored-again}
 use Rattle.call_words.specs.CallWords.{lent, fits_call, where_fits, with_column}
@@ -53,7 +53,7 @@ module _ (words m : List ℕ) (c : Call) (l : table_length ≤ length words) (r 
 
   -- the table with the entry of a write counted, which has whole arrays
   abbrev entered : Table
-  entered = with_used (table_from words) (used_after (column_from words used_offset) c r) (counters_from words)
+  entered = with_counts (table_from words) (used_after (column_from words used_offset) c r) (counters_from words)
 
   entered-arrays : Arrays entered
   unfolding table_from

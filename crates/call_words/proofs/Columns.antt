@@ -11,7 +11,7 @@ use Rattle.lists.specs.Below.{nth}
 use Rattle.table.specs.declared.Table.{Table}
 use Rattle.table.specs.Parts.{with_counters}
 use Rattle.table_words.specs.Words.{capacity_offset, salt_offset, count_offset, weights_offset, used_offset, numerators_offset, denominators_offset, counters_offset, table_length, column_from, counters_from, table_from, words_of, with_table}
-use Rattle.dispatch.specs.OneCall.{with_used}
+use Rattle.dispatch.specs.OneCall.{with_counts}
 use Rattle.call_words.specs.CallWords.{with_column}
 
 -- the first three words, and a run of the words after them
@@ -55,14 +55,14 @@ front-words words l = three-front words 256 l
 counters-next : (words : List ℕ) → drop counters_offset words ≡ counters_from words ++ drop table_length words
 counters-next words = sym (take-append-drop 8 (drop counters_offset words)) ∙ ap (λ (rest : List ℕ). counters_from words ++ rest) (drop-drop 8 counters_offset words)
 
-pub used-stored : (words used : List ℕ) → table_length ≤ length words → with_column words used_offset used ≡ with_table words (with_used (table_from words) used (counters_from words))
+pub used-stored : (words used : List ℕ) → table_length ≤ length words → with_column words used_offset used ≡ with_table words (with_counts (table_from words) used (counters_from words))
 unfolding with_column table_from words_of
 used-stored words used l =
     together ((nth words capacity_offset ∷ nth words salt_offset ∷ nth words count_offset ∷ []) ++ column_from words weights_offset) used (column_from words numerators_offset) (column_from words denominators_offset) (counters_from words) (drop table_length words)
     (front-words words (omega arith))
     (column-next words numerators_offset ∙ ap (λ (rest : List ℕ). column_from words numerators_offset ++ rest) (column-next words denominators_offset
     ∙ ap (λ (rest : List ℕ). column_from words denominators_offset ++ rest) (counters-next words)))
-    ∙ long-table words (with_used (table_from words) used (counters_from words)) l
+    ∙ long-table words (with_counts (table_from words) used (counters_from words)) l
 
 -- the words up to the counters
 columns-end : (words : List ℕ) → table_length ≤ length words

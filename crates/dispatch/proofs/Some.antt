@@ -21,7 +21,7 @@ use Rattle.writing.proofs.Accepted.{written-some, some-kept}
 use Rattle.writing.proofs.Whole.{write-plain}
 use Rattle.archive.proofs.Small.{Small, write-small, delete-small}
 use Rattle.history.specs.Machine.{State, reply, next}
-use Rattle.dispatch.specs.OneCall.{in_list, no_call_number, reply_to, next_by, used_after, with_used}
+use Rattle.dispatch.specs.OneCall.{in_list, no_call_number, reply_to, next_by, used_after, with_counts}
 use Rattle.dispatch.specs.SomeBurns.{some_reply, some_next}
 
 either : (b : Bool) (t : Table) → cond b t t ≡ t
@@ -59,7 +59,7 @@ module _ (S : State) where
 
   -- the table after it, by the test whether no burn is left over
   pub some-table : (c : Call) (r : Reply) → r ≡ some_reply S (Some c) → (n : ℕ) (b : Bool) → b ≡ leb (r.invalidated + 2) n
-      → cond b (with_used S.table (used_after S.table.used c r) S.table.counters) S.table ≡ (some_next S (Some c) n).table
+      → cond b (with_counts S.table (used_after S.table.used c r) S.table.counters) S.table ≡ (some_next S (Some c) n).table
   unfolding some_reply some_next used_after with_entry
   some-table (AddServer _) r e n b t = either b S.table
   some-table (Reweight _ _) r e n b t = either b S.table

@@ -49,8 +49,8 @@ counters_after counters (Delete _ _) r = counters
 counters_after counters (Lookup tenant _) r = counted counters tenant r.opened
 
 -- a table with other used entries and counters, and the table with what a call counts
-abbrev pub with_used : Table → List ℕ → List ℕ → Table
-with_used t used counters = table_by (shape_of t) t.weights used t.numerators t.denominators counters
+abbrev pub with_counts : Table → List ℕ → List ℕ → Table
+with_counts t used counters = table_by (shape_of t) t.weights used t.numerators t.denominators counters
 
 abbrev pub counted_table : Table → Call → Reply → Table
-counted_table t c r = with_used t (used_after t.used c r) (counters_after t.counters c r)
+counted_table t c r = with_counts t (used_after t.used c r) (counters_after t.counters c r)

@@ -14,7 +14,7 @@ use Rattle.words.specs.Word.{tagged}
 use Rattle.words.proofs.Words.{content-only}
 use Rattle.table.specs.declared.Table.{Table}
 use Rattle.table.specs.Parts.{weight_of, used_of, read_p, opened_of}
-use Rattle.image.specs.Layout.{head_words, part_words, part_at, image_length, server_words, server_image, counter_image, image_of}
+use Rattle.image.specs.Layout.{head_words, part_words, part_at, image_length, server_part, server_image, counter_image, image_of}
 use Rattle.image.specs.Promises.{EqualBelow}
 
 -- the words of the servers, and those of the counters
@@ -64,7 +64,7 @@ unfolding image_of
 equal-image t u g =
     let b = g.below in
     let each : servers t ≡ join_below (server_image u) t.count = join-cong (server_image t) (server_image u) t.count
-    (λ k l. ap₂ (λ (w n : ℕ). server_words w n (read_p t k)) (b.weight k l) (b.used k l) ∙ ap (server_words (weight_of u k) (used_of u k)) (b.read k l)) in
+    (λ k l. ap₂ (λ (w n : ℕ). server_part w n (read_p t k)) (b.weight k l) (b.used k l) ∙ ap (server_part (weight_of u k) (used_of u k)) (b.read k l)) in
     let all : counters t ≡ counters u = join-cong (counter_image t) (counter_image u) tenants (λ i l. rw (g.counters i l)) in
     rw (each, all, b.capacity, b.salt, b.count)
 

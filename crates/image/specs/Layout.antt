@@ -53,8 +53,8 @@ abbrev pub image_length : ℕ → ℕ
 image_length count = part_at count + tenants
 
 -- the words of a server, by its numbers
-abbrev pub server_words : ℕ → ℕ → Fraction → List ℕ
-server_words weight used read = tagged 1 weight ∷ tagged 2 used ∷ tagged 0 read.num ∷ tagged 1 read.den ∷ []
+abbrev pub server_part : ℕ → ℕ → Fraction → List ℕ
+server_part weight used read = tagged 1 weight ∷ tagged 2 used ∷ tagged 0 read.num ∷ tagged 1 read.den ∷ []
 
 -- the word of a counter
 abbrev pub counter_word : ℕ → List ℕ
@@ -62,7 +62,7 @@ counter_word counter = tagged 2 counter ∷ []
 
 -- the words of server k of a table, and of a tenant's counter
 abbrev pub server_image : Table → ℕ → List ℕ
-server_image t k = server_words (weight_of t k) (used_of t k) (read_p t k)
+server_image t k = server_part (weight_of t k) (used_of t k) (read_p t k)
 
 abbrev pub counter_image : Table → ℕ → List ℕ
 counter_image t tenant = counter_word (opened_of t tenant)

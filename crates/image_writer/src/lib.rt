@@ -7,7 +7,7 @@ ghost use Rattle.limits.specs.Limits.{max_servers, content_range, tenants};
 ghost use Rattle.lists.specs.Below.{nth, join_below};
 ghost use Rattle.counters.specs.Counter.{in_bounds};
 ghost use Rattle.table.specs.Parts.{table_of};
-ghost use Rattle.image.specs.Layout.{head_words, part_words, part_at, image_length, server_words, counter_word, server_image, image_of};
+ghost use Rattle.image.specs.Layout.{head_words, part_words, part_at, image_length, server_part, counter_word, server_image, image_of};
 ghost use Rattle.image.specs.Encoding.{reply_of_encode, encode_reply, encode_words};
 
 use limits::{Counters, TENANTS};
@@ -48,7 +48,7 @@ pub fn image_length(count: usize) -> usize
 fn store_server(destination: &mut [u32], at: usize, weight: u32, used: u32, read: Fraction)
     requires part_words_in_bounds { at + part_words ≤ length destination.old }
     requires weight_lt_content_range { (weight < content_range) × (used < content_range) × (read.num < content_range) × (read.den < content_range) }
-    ensures { destination.new ≡ sets destination.old at (server_words weight used read) }
+    ensures { destination.new ≡ sets destination.old at (server_part weight used read) }
 {
     destination[at + WEIGHT_PLACE] = words::tagged(1, weight);
     destination[at + USED_PLACE] = words::tagged(2, used);

@@ -20,14 +20,14 @@ use Rattle.history.specs.Call.{Call, add_server, reweight, write, delete, lookup
 use Rattle.history.specs.Machine.{State, reply, next, turned, after, begin}
 use Rattle.history.specs.Counters.{opened_to, opened_in_turn, opened_by}
 use Rattle.history.proofs.Counters.{counters}
-use Rattle.isolation.specs.Seen.{sees, shown, Heard, to_call, to_batch, hears, heard}
+use Rattle.isolation.specs.Seen.{sees, shown, Shown, to_call, to_batch, shown_by, heard}
 
 -- the opened counts in what is heard
-unfoldable opened_heard : Heard → ℕ
+unfoldable opened_heard : Shown → ℕ
 opened_heard (to_call r) = r.opened
 opened_heard (to_batch b) = opened_in b
 
-unfoldable opened_in-all : List Heard → ℕ
+unfoldable opened_in-all : List Shown → ℕ
 opened_in-all [] = 0
 opened_in-all (h ∷ hs) = opened_heard h + opened_in-all hs
 
@@ -36,8 +36,8 @@ module _ (tenant : ℕ) where
   none-heard : (caller : ℕ) (x : ℕ) → x ≡ 0 → cond (eqb caller tenant) x 0 ≡ 0
   none-heard caller x e = by_bool (eqb caller tenant) (λ d. rw d e) (λ d. rw d)
 
-  call-heard : (S : State) (c : Call) → cond (sees tenant c) (opened_heard (hears S c)) 0 ≡ opened_to tenant S c
-  unfolding sees hears shown opened_heard opened_to reply add_server_reply reweight_reply write_reply delete_reply
+  call-heard : (S : State) (c : Call) → cond (sees tenant c) (opened_heard (shown_by S c)) 0 ≡ opened_to tenant S c
+  unfolding sees shown_by shown opened_heard opened_to reply add_server_reply reweight_reply write_reply delete_reply
   call-heard S (add_server weight) = reply-unopened (add_server_rows S.table S.medium weight) _ refl
   call-heard S (reweight server weight) = reply-unopened (reweight_rows S.table server weight) _ refl
   call-heard S (write caller id value) = none-heard caller _ (reply-unopened (write_rows S.table S.medium caller id value) _ refl)
@@ -50,7 +50,7 @@ module _ (tenant : ℕ) where
   all-heard [] S = refl
   all-heard (c ∷ calls) S = by_bool (sees tenant c)
       (λ s.
-      let one : opened_heard (hears S c) ≡ opened_to tenant S c = rw s at (call-heard S c) in
+      let one : opened_heard (shown_by S c) ≡ opened_to tenant S c = rw s at (call-heard S c) in
       rw (s, one, all-heard calls (next S c)))
       (λ s.
       let one : 0 ≡ opened_to tenant S c = rw s at (call-heard S c) in

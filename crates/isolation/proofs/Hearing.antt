@@ -33,9 +33,9 @@ use Rattle.history.proofs.Agree.{same_target, same_reads, same-marks}
 use Rattle.history.proofs.Batches.{same-batch}
 use Rattle.history.proofs.Run.{Agrees, step}
 use Rattle.history.proofs.LiveRule.{Rules, table-ruled}
-use Rattle.isolation.specs.Seen.{sees, supposed, verdict, shown, to_call, to_batch, hears}
+use Rattle.isolation.specs.Seen.{sees, supposed, verdict, shown, to_call, to_batch, shown_by}
 use Rattle.isolation.proofs.LiveOn.{live_on, length_over}
-use Rattle.isolation.proofs.View.{events_of, trimmed, view, shown_l, accepts, enter_v, live_from, lost_v, whole, reply_v, hears_v, live_own, last-own}
+use Rattle.isolation.proofs.View.{events_of, trimmed, view, shown_l, accepts, enter_v, live_from, lost_v, whole, reply_v, shown_v, live_own, last-own}
 use Rattle.isolation.proofs.Entering.{Verdict, own-tenant, write-own, delete-own, lookup-own, viewed, lookup-view, number, accepts-view, seen-enters}
 
 -- the number of invalidated entries in a reply
@@ -107,8 +107,8 @@ module _ (tenant : ℕ) (S : State) (L : Ledger) (A : Agrees S L) (R : Rules L S
   unfolding reply_v whole compared viewed shown shown_l
   seen-reply c s ok by = ap₂ whole (ap (shown_l c) (step S L A c).alike ∙ ap (λ (e : Entered). e.reply) (seen-enters tenant S L A c s ok by)) (seen-lost c s ok by)
 
-  pub seen-heard : (c : Call) → sees tenant c ≡ true → (ok : Bool) → Verdict S c ok → hears S c ≡ hears_v K c ok
-  unfolding sees hears hears_v
+  pub seen-heard : (c : Call) → sees tenant c ≡ true → (ok : Bool) → Verdict S c ok → shown_by S c ≡ shown_v K c ok
+  unfolding sees shown_by shown_v
   seen-heard (add_server weight) s ok by = ap to_call (seen-reply (add_server weight) s ok by)
   seen-heard (reweight server weight) s ok by = ap to_call (seen-reply (reweight server weight) s ok by)
   seen-heard (write caller id value) s ok by = ap to_call (seen-reply (write caller id value) s ok by)

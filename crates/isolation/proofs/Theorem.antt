@@ -12,7 +12,7 @@ use Rattle.history.specs.Machine.{State, next, begin}
 use Rattle.history.specs.Ledger.{Ledger, Entered, fresh_ledger, enter}
 use Rattle.history.proofs.Run.{Agrees, begin-agrees, step}
 use Rattle.history.proofs.LiveRule.{Rules, begin-rules, next-rules}
-use Rattle.isolation.specs.Seen.{sees, supposed, verdict, Heard, hears, seen, verdicts, heard}
+use Rattle.isolation.specs.Seen.{sees, supposed, verdict, Shown, shown_by, seen, verdicts, heard}
 use Rattle.isolation.specs.Isolation.{Isolation}
 use Rattle.isolation.proofs.View.{trimmed, view, next_of, rest_of, foretold}
 use Rattle.isolation.proofs.Entering.{Verdict, viewed, unseen, seen-enters}
@@ -27,9 +27,9 @@ module _ (tenant : ℕ) where
   -- one call that is seen: it takes a verdict where it is supposed, and none where it is not
   one_seen : (S : State) (L : Ledger) → Agrees S L → Rules L S.medium → (c : Call) → sees tenant c ≡ true
       → (calls : List Call) (oks later : List Bool) → Verdict S c (next_of oks) → cond (supposed c) (rest_of oks) oks ≡ later
-      → hears S c ∷ foretold (view tenant (enter L c).ledger) calls later ≡ foretold (view tenant L) (c ∷ calls) oks
+      → shown_by S c ∷ foretold (view tenant (enter L c).ledger) calls later ≡ foretold (view tenant L) (c ∷ calls) oks
   unfolding foretold viewed
-  one_seen S L A R c s calls oks later by e = rw e (ap₂ (λ (h : Heard) (K : Ledger). h ∷ foretold K calls later)
+  one_seen S L A R c s calls oks later by e = rw e (ap₂ (λ (h : Shown) (K : Ledger). h ∷ foretold K calls later)
       (seen-heard tenant S L A R c s (next_of oks) by)
       (ap (λ (x : Entered). x.ledger) (seen-enters tenant S L A c s (next_of oks) by)))
 
@@ -41,7 +41,7 @@ module _ (tenant : ℕ) where
       let later = verdicts tenant (next S c) calls in
       let ih = foretells calls (next S c) (enter L c).ledger (step S L A c).agrees (next-rules S L A R c) in
       by_bool (sees tenant c)
-      (λ s. rw s (ap (λ (l : List Heard). hears S c ∷ l) ih ∙ by_bool (supposed c)
+      (λ s. rw s (ap (λ (l : List Shown). shown_by S c ∷ l) ih ∙ by_bool (supposed c)
       (λ q. rw q (one_seen S L A R c s (seen tenant calls) (verdict S c ∷ later) later (λ _. refl) (rw q)))
       (λ q. rw q (one_seen S L A R c s (seen tenant calls) later later (λ p. absurd (true-not-false p q)) (rw q)))))
       (λ s. rw s (ih ∙ ap (λ (K : Ledger). foretold K (seen tenant calls) later) (unseen tenant L c s)))

@@ -13,7 +13,7 @@ use Rattle.replies.specs.Refusal.{first_of}
 use Rattle.replies.specs.declared.Reply.{Reply}
 use Rattle.history.specs.Call.{Call, add_server, reweight, write, delete, lookup, batch, Compared}
 use Rattle.history.specs.Ledger.{Event, wrote, removed, spent, Ledger, Entered, told, words_for, last_write_of, target_l, batch_l, rows_of, done_of, reads_l}
-use Rattle.isolation.specs.Seen.{supposed, Heard, to_call, to_batch}
+use Rattle.isolation.specs.Seen.{supposed, Shown, to_call, to_batch}
 use Rattle.isolation.proofs.LiveOn.{live_on}
 
 -- the events of the tenant's ids
@@ -72,13 +72,13 @@ whole r invalidated = record { refusal = r.refusal; server = r.server; value = r
 unfoldable pub reply_v : Ledger → Call → Bool → Reply
 reply_v K c ok = whole (enter_v K c ok).reply (lost_v K c (accepts K c ok))
 
-unfoldable pub hears_v : Ledger → Call → Bool → Heard
-hears_v K (add_server weight) ok = to_call (reply_v K (add_server weight) ok)
-hears_v K (reweight server weight) ok = to_call (reply_v K (reweight server weight) ok)
-hears_v K (write caller id value) ok = to_call (reply_v K (write caller id value) ok)
-hears_v K (delete caller id) ok = to_call (reply_v K (delete caller id) ok)
-hears_v K (lookup caller id) ok = to_call (reply_v K (lookup caller id) ok)
-hears_v K (batch caller ids) ok = to_batch (batch_l K caller ids)
+unfoldable pub shown_v : Ledger → Call → Bool → Shown
+shown_v K (add_server weight) ok = to_call (reply_v K (add_server weight) ok)
+shown_v K (reweight server weight) ok = to_call (reply_v K (reweight server weight) ok)
+shown_v K (write caller id value) ok = to_call (reply_v K (write caller id value) ok)
+shown_v K (delete caller id) ok = to_call (reply_v K (delete caller id) ok)
+shown_v K (lookup caller id) ok = to_call (reply_v K (lookup caller id) ok)
+shown_v K (batch caller ids) ok = to_batch (batch_l K caller ids)
 
 -- the next verdict and those after it
 unfoldable pub next_of : List Bool → Bool
@@ -90,9 +90,9 @@ rest_of [] = []
 rest_of (ok ∷ oks) = oks
 
 -- over the calls that the tenant sees, with the verdicts on the supposed ones
-unfoldable pub foretold : Ledger → List Call → List Bool → List Heard
+unfoldable pub foretold : Ledger → List Call → List Bool → List Shown
 foretold K [] oks = []
-foretold K (c ∷ calls) oks = hears_v K c (next_of oks) ∷ foretold (enter_v K c (next_of oks)).ledger calls (cond (supposed c) (rest_of oks) oks)
+foretold K (c ∷ calls) oks = shown_v K c (next_of oks) ∷ foretold (enter_v K c (next_of oks)).ledger calls (cond (supposed c) (rest_of oks) oks)
 
 -- an event of another tenant's id is none of this id
 other-id : (tenant id a : ℕ) → tenant_of id ≡ tenant → eqb (tenant_of a) tenant ≡ false → eqb a id ≡ false

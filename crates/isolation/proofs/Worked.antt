@@ -25,11 +25,11 @@ use Rattle.servers.specs.Servers.{start_table, add_server_reply, add_server_tabl
 use Rattle.batch_answer.specs.Answer.{mounts, ends_at, by_end, order, filled, batch_by, opened_in, too_long, settled_batch}
 use Rattle.batch.specs.Batch.{lookup_opens, opened_at, batch_rows, batch_reply, batch_table}
 use Rattle.history.specs.Machine.{reply, next, turned, after_turns, begin}
-use Rattle.isolation.specs.Seen.{sees, supposed, verdict, shown, hears, seen, verdicts, heard}
-use Rattle.isolation.specs.Worked.{alone, among, both, expected, neighbours, spared, filled as full, Worked}
+use Rattle.isolation.specs.Seen.{sees, supposed, verdict, shown, shown_by, seen, verdicts, heard}
+use Rattle.isolation.specs.Worked.{alone, among, both, own_replies, neighbours, spared, crowded, Worked}
 
 pub worked : Worked
-unfolding alone among both expected neighbours spared full all_below some_below highest or_zero upward count_below total set_below step_of nonzero seed_of xor_left xor_right round_of draw_of exceeds at_least raise share_of write_p takes pick write_server readable server_at entry_at bears_at live blank_run burn_all marks_on marks_over invalidations in_range read_sound server_sound sound in_bounds grown counted with_server with_weight one_more with_entry with_opened first_of settle reply_by last_live opening search_below search_for start_rows start_table add_server_rows add_server_reply add_server_table reweight_rows reweight_reply reweight_table short ready_rows asked_rows tenant_of out_of_range of_another target entry_rows write_rows write_marks write_burns write_reply write_table write_medium is_met delete_rows delete_marks delete_reply delete_medium lookup_rows met_reply lookup_reply lookup_table lowest opens mounts ends_at by_end order filled batch_by opened_in too_long settled_batch lookup_opens opened_at batch_rows batch_reply batch_table reply next turned after_turns begin sees supposed verdict shown hears seen verdicts heard
+unfolding alone among both own_replies neighbours spared crowded all_below some_below highest or_zero upward count_below total set_below step_of nonzero seed_of xor_left xor_right round_of draw_of exceeds at_least raise share_of write_p takes pick write_server readable server_at entry_at bears_at live blank_run burn_all marks_on marks_over invalidations in_range read_sound server_sound sound in_bounds grown counted with_server with_weight one_more with_entry with_opened first_of settle reply_by last_live opening search_below search_for start_rows start_table add_server_rows add_server_reply add_server_table reweight_rows reweight_reply reweight_table short ready_rows asked_rows tenant_of out_of_range of_another target entry_rows write_rows write_marks write_burns write_reply write_table write_medium is_met delete_rows delete_marks delete_reply delete_medium lookup_rows met_reply lookup_reply lookup_table lowest opens mounts ends_at by_end order filled batch_by opened_in too_long settled_batch lookup_opens opened_at batch_rows batch_reply batch_table reply next turned after_turns begin sees supposed verdict shown shown_by seen verdicts heard
 worked = record {
   seen_same = refl;
   verdicts_same = refl;
@@ -40,7 +40,7 @@ worked = record {
   counter_among = refl;
   seen_alike = refl;
   verdicts_spared = refl;
-  verdicts_filled = refl;
+  verdicts_crowded = refl;
   heard_spared = refl;
-  heard_filled = refl;
+  heard_crowded = refl;
 }

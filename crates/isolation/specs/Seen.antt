@@ -40,20 +40,20 @@ shown c r = record {
 }
 
 -- what is heard: the reply to a call as far as it is shown, or the whole answer to a batch
-pub data Heard : Type 0 where
-  to_call : Reply → Heard
-  to_batch : BatchReply → Heard
+pub data Shown : Type 0 where
+  to_call : Reply → Shown
+  to_batch : BatchReply → Shown
 
-abbrev pub hears_reply : State → Call → Heard
-hears_reply S c = to_call (shown c (reply S c))
+abbrev pub shown_reply : State → Call → Shown
+shown_reply S c = to_call (shown c (reply S c))
 
-unfoldable pub hears : State → Call → Heard
-hears S (add_server weight) = hears_reply S (add_server weight)
-hears S (reweight server weight) = hears_reply S (reweight server weight)
-hears S (write caller id value) = hears_reply S (write caller id value)
-hears S (delete caller id) = hears_reply S (delete caller id)
-hears S (lookup caller id) = hears_reply S (lookup caller id)
-hears S (batch caller ids) = to_batch (batch_reply S.table S.medium caller ids)
+unfoldable pub shown_by : State → Call → Shown
+shown_by S (add_server weight) = shown_reply S (add_server weight)
+shown_by S (reweight server weight) = shown_reply S (reweight server weight)
+shown_by S (write caller id value) = shown_reply S (write caller id value)
+shown_by S (delete caller id) = shown_reply S (delete caller id)
+shown_by S (lookup caller id) = shown_reply S (lookup caller id)
+shown_by S (batch caller ids) = to_batch (batch_reply S.table S.medium caller ids)
 
 -- the calls of a list that the tenant sees
 unfoldable pub seen : ℕ → List Call → List Call
@@ -68,8 +68,8 @@ verdicts tenant S (c ∷ calls) =
     cond (sees tenant c && supposed c) (verdict S c ∷ later) later
 
 -- and what the tenant hears of the calls that it sees
-unfoldable pub heard : ℕ → State → List Call → List Heard
+unfoldable pub heard : ℕ → State → List Call → List Shown
 heard tenant S [] = []
 heard tenant S (c ∷ calls) =
     let later = heard tenant (next S c) calls in
-    cond (sees tenant c) (hears S c ∷ later) later
+    cond (sees tenant c) (shown_by S c ∷ later) later

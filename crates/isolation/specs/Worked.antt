@@ -6,7 +6,7 @@ use Rattle.replies.specs.Reply.{refused, on_server, found}
 use Rattle.batch_answer.specs.Answer.{BatchReply}
 use Rattle.history.specs.Call.{Call, add_server, reweight, write, delete, lookup, batch}
 use Rattle.history.specs.Machine.{after, begin}
-use Rattle.isolation.specs.Seen.{Heard, to_call, to_batch, seen, verdicts, heard}
+use Rattle.isolation.specs.Seen.{Shown, to_call, to_batch, seen, verdicts, heard}
 
 unfoldable pub alone : List Call
 alone =
@@ -52,8 +52,8 @@ both = record {
   order = 1 ∷ 0 ∷ replicate 254 0;
 }
 
-unfoldable pub expected : List Heard
-expected =
+unfoldable pub own_replies : List Shown
+own_replies =
     to_call (on_server 0 0)
     ∷ to_call (on_server 1 0)
     ∷ to_call (on_server 2 0)
@@ -67,7 +67,7 @@ expected =
     ∷ []
 
 -- tenant 0's attempt gets 11
-unfoldable pub neighbours : List Heard
+unfoldable pub neighbours : List Shown
 neighbours =
     to_call (on_server 0 0)
     ∷ to_call (on_server 1 0)
@@ -83,21 +83,21 @@ neighbours =
 unfoldable pub spared : List Call
 spared = add_server 1 ∷ write 4 626627286 500 ∷ lookup 4 626627286 ∷ []
 
-unfoldable pub filled : List Call
-filled = add_server 1 ∷ write 0 5 9 ∷ write 4 626627286 500 ∷ lookup 4 626627286 ∷ []
+unfoldable pub crowded : List Call
+crowded = add_server 1 ∷ write 0 5 9 ∷ write 4 626627286 500 ∷ lookup 4 626627286 ∷ []
 
 pub record Worked : Type 0 where
   pub seen_same : seen 4 alone ≡ seen 4 among
   pub verdicts_same : verdicts 4 (begin 4 0 36) alone ≡ verdicts 4 (begin 4 0 40) among
-  pub heard_alone : heard 4 (begin 4 0 36) alone ≡ expected
-  pub heard_among : heard 4 (begin 4 0 40) among ≡ expected
+  pub heard_alone : heard 4 (begin 4 0 36) alone ≡ own_replies
+  pub heard_among : heard 4 (begin 4 0 40) among ≡ own_replies
   pub heard_by_other : heard 0 (begin 4 0 40) among ≡ neighbours
   -- one server for the batch, two, and two before the refusal
   pub counter_alone : opened_of (after (begin 4 0 36) alone).table 4 ≡ 5
   pub counter_among : opened_of (after (begin 4 0 40) among).table 4 ≡ 5
   -- the same is seen, but the write is not accepted in both, and another answer is heard; `refused 0 0` shows no number
-  pub seen_alike : seen 4 spared ≡ seen 4 filled
+  pub seen_alike : seen 4 spared ≡ seen 4 crowded
   pub verdicts_spared : verdicts 4 (begin 1 0 3) spared ≡ true ∷ true ∷ []
-  pub verdicts_filled : verdicts 4 (begin 1 0 3) filled ≡ true ∷ false ∷ []
+  pub verdicts_crowded : verdicts 4 (begin 1 0 3) crowded ≡ true ∷ false ∷ []
   pub heard_spared : heard 4 (begin 1 0 3) spared ≡ to_call (on_server 0 0) ∷ to_call (on_server 0 0) ∷ to_call (found 500 1) ∷ []
-  pub heard_filled : heard 4 (begin 1 0 3) filled ≡ to_call (on_server 0 0) ∷ to_call (refused 0 0) ∷ to_call (refused 8 1) ∷ []
+  pub heard_crowded : heard 4 (begin 1 0 3) crowded ≡ to_call (on_server 0 0) ∷ to_call (refused 0 0) ∷ to_call (refused 8 1) ∷ []

@@ -6,7 +6,7 @@ use Rattle.replies.specs.declared.Refusal.{Refusal}
 use Rattle.replies.specs.declared.Reply.{Reply}
 use Rattle.replies.specs.declared.LookupAnswer.{LookupAnswer}
 use Rattle.replies.specs.Reply.{number_of, found_or, reply_of_lookup}
-use Rattle.batch_answer.specs.Answer.{filled, refusals_of, values_of, opened_of}
+use Rattle.batch_answer.specs.Answer.{filled, refusals_of, values_of, opened_counts_of}
 use Rattle.batch_answer.proofs.Columns.{column-set, column-fill}
 use Rattle.batch_begin.specs.declared.Parts.{Parts}
 use Rattle.batch_begin.specs.Begin.{Columns, columns_of, first_refusal, first_parts}
@@ -39,7 +39,7 @@ loop-i-init c =
     λ k. record {
       refusals = (ap (λ (xs : List LookupAnswer). refusals_of xs) e ∙ column-fill (λ (x : Reply). x.refusal) 256 a) k;
       values = (ap (λ (xs : List LookupAnswer). values_of xs) e ∙ column-fill (λ (x : Reply). x.value) 256 a) k;
-      opened = (ap (λ (xs : List LookupAnswer). opened_of xs) e ∙ column-fill (λ (x : Reply). x.opened) 256 a) k;
+      opened = (ap (λ (xs : List LookupAnswer). opened_counts_of xs) e ∙ column-fill (λ (x : Reply). x.opened) 256 a) k;
       ends = z k;
     }
 
