@@ -3,7 +3,7 @@ use Rattle.std.specs.Prelude.{ℕ, zero, suc, ◌+◌, ◌/◌, ◌%◌, cond, L
 use Rattle.calls.specs.declared.Call.{Call}
 use Rattle.calls.specs.declared.Call.TheVariants.{AddServer, Reweight, Write, Delete, Lookup}
 use Rattle.replies.specs.declared.Reply.{Reply}
-use Rattle.letters.specs.Letter.{add_server_letter, reweight_letter, write_letter, delete_letter, lookup_letter}
+use Rattle.letters.specs.Letter.{letter_of}
 
 -- decimal digits without leading zeros, of a number of at most n digits
 unfoldable pub digits : ℕ → ℕ → List ℕ
@@ -24,10 +24,14 @@ longest_line = 35
 unfoldable pub question : List ℕ
 question = 63 ∷ 10 ∷ []
 
--- the answer of a call: F server 0; G server 0; W server invalidated; D invalidated 0; L value opened
+-- the two answers of a call's reply: F server 0; G server 0; W server invalidated; D invalidated 0; L value opened
+unfoldable pub answers_of : Call → Reply → ℕ × ℕ
+answers_of (AddServer _) r = (r.server, 0)
+answers_of (Reweight _ _) r = (r.server, 0)
+answers_of (Write _ _ _) r = (r.server, r.invalidated)
+answers_of (Delete _ _) r = (r.invalidated, 0)
+answers_of (Lookup _ _) r = (r.value, r.opened)
+
+-- what a call prints: its letter, and of its reply the refusal number and the two answers
 unfoldable pub answered : Call → Reply → List ℕ
-answered (AddServer _) r = printed add_server_letter r.refusal r.server 0
-answered (Reweight _ _) r = printed reweight_letter r.refusal r.server 0
-answered (Write _ _ _) r = printed write_letter r.refusal r.server r.invalidated
-answered (Delete _ _) r = printed delete_letter r.refusal r.invalidated 0
-answered (Lookup _ _) r = printed lookup_letter r.refusal r.value r.opened
+answered c r = printed (letter_of c) r.refusal ((answers_of c r).0) ((answers_of c r).1)

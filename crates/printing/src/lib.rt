@@ -51,7 +51,7 @@ pub fn put_answer(
 }
 
 // Puts the answer line of a call.
-#[tactic(auto, unfolding(crate::specs::Print::answered, letters::specs::Letter::letter_of))]
+#[tactic(auto, unfolding(crate::specs::Print::answers_of, crate::specs::Print::answered))]
 pub fn put_reply(out: &mut [u8], at: usize, call: Call, reply: Reply) -> usize
     requires longest_line_in_bounds { at + longest_line ≤ length out.old }
     requires server_bound { (reply.server < 4294967296) × (reply.opened < 4294967296) × (reply.invalidated < 4294967296) }

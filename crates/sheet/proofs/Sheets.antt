@@ -18,16 +18,15 @@ use Rattle.lists.proofs.Below.{sets-append}
 use Rattle.lists.proofs.Tests.{by_bool, true-not-false}
 use Rattle.table.specs.declared.Table.{Table}
 use Rattle.calls.specs.declared.Call.{Call}
-use Rattle.calls.specs.declared.Call.TheVariants.{AddServer, Reweight, Write, Delete, Lookup}
 use Rattle.replies.specs.declared.Reply.{Reply}
 use Rattle.parsing.specs.declared.Line.{Line}
 use Rattle.parsing.specs.declared.Line.TheVariants as line
-use Rattle.letters.specs.Letter.{start_letter, add_server_letter, reweight_letter, write_letter, delete_letter, lookup_letter}
+use Rattle.letters.specs.Letter.{start_letter, letter_of}
 use Rattle.std.specs.List.{position_or_len, IsFirstMatchOrLen}
 use Rattle.std.proofs.lemmas.List.Sums.{position_or_len_is}
 use lib.Pointwise.{pointwise}
 use Rattle.parsing.specs.Line.{line_of}
-use Rattle.printing.specs.Print.{printed, question, answered}
+use Rattle.printing.specs.Print.{printed, question, answers_of, answered}
 use Rattle.printing.proofs.Printing.{decimal-short, length-line}
 use Rattle.sheet_start.specs.SheetStart.{Sheet, Done, sheet_of, start_run}
 use Rattle.sheet_call.specs.SheetCall.{call_run}
@@ -44,11 +43,7 @@ question-short = omega arith
 
 answered-short : (c : Call) (r : Reply) → length (answered c r) ≤ 35
 unfolding answered
-answered-short (AddServer _) r = short add_server_letter r.refusal r.server 0
-answered-short (Reweight _ _) r = short reweight_letter r.refusal r.server 0
-answered-short (Write _ _ _) r = short write_letter r.refusal r.server r.invalidated
-answered-short (Delete _ _) r = short delete_letter r.refusal r.invalidated 0
-answered-short (Lookup _ _) r = short lookup_letter r.refusal r.value r.opened
+answered-short c r = short (letter_of c) r.refusal ((answers_of c r).0) ((answers_of c r).1)
 
 call-short : (s : Sheet) (o : Option Table) (c : Call) → length (call_run s o c).bytes ≤ 35
 unfolding call_run

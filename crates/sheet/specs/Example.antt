@@ -22,9 +22,9 @@ use Rattle.server_rows.specs.ServerRows.{start_rows, add_server_rows, reweight_r
 use Rattle.servers.specs.Servers.{start_reply, start_table, add_server_reply, add_server_table, reweight_reply, reweight_table}
 use Rattle.history.specs.Machine.{reply, next}
 use Rattle.dispatch.specs.OneCall.{in_list, reply_to, next_by}
-use Rattle.letters.specs.Letter.{call_for}
+use Rattle.letters.specs.Letter.{letter_of, call_for}
 use Rattle.parsing.specs.Line.{is_digit, digit_run, value_of, number_at, spaced, line_by, has_two, last, first, line_of}
-use Rattle.printing.specs.Print.{digits, decimal, printed, question, answered}
+use Rattle.printing.specs.Print.{digits, decimal, printed, question, answers_of, answered}
 use Rattle.sheet_start.specs.SheetStart.{start_run}
 use Rattle.sheet_call.specs.SheetCall.{call_run}
 use Rattle.line_run.specs.LineRun.{line_run}
@@ -63,5 +63,5 @@ output =
 
 -- the output over as many words as daysheet has
 pub example : (output_of input (replicate 3072 4294967295)).bytes ≡ output
-unfolding input output all_below highest or_zero upward count_below total set_below step_of nonzero seed_of xor_left xor_right round_of draw_of exceeds at_least raise share_of write_p takes pick write_server readable server_at entry_at bears_at live blank_run burn_all marks_on marks_over invalidations in_range read_sound server_sound sound in_bounds grown counted with_server with_weight one_more with_entry with_opened first_of settle reply_by last_live opening search_below search_for start_rows start_reply start_table add_server_rows add_server_reply add_server_table reweight_rows reweight_reply reweight_table short ready_rows asked_rows tenant_of out_of_range of_another target entry_rows write_rows write_marks write_burns write_reply write_table write_medium is_met delete_rows delete_marks delete_reply delete_medium lookup_rows met_reply lookup_reply lookup_table reply next in_list reply_to next_by is_digit digit_run value_of number_at spaced call_for line_by has_two last first line_of longer lines_of digits decimal printed question answered start_run call_run line_run run output_of
+unfolding input output all_below highest or_zero upward count_below total set_below step_of nonzero seed_of xor_left xor_right round_of draw_of exceeds at_least raise share_of write_p takes pick write_server readable server_at entry_at bears_at live blank_run burn_all marks_on marks_over invalidations in_range read_sound server_sound sound in_bounds grown counted with_server with_weight one_more with_entry with_opened first_of settle reply_by last_live opening search_below search_for start_rows start_reply start_table add_server_rows add_server_reply add_server_table reweight_rows reweight_reply reweight_table short ready_rows asked_rows tenant_of out_of_range of_another target entry_rows write_rows write_marks write_burns write_reply write_table write_medium is_met delete_rows delete_marks delete_reply delete_medium lookup_rows met_reply lookup_reply lookup_table reply next in_list reply_to next_by is_digit digit_run value_of number_at spaced letter_of call_for line_by has_two last first line_of longer lines_of digits decimal printed question answers_of answered start_run call_run line_run run output_of
 example = refl
