@@ -8,7 +8,7 @@
 --   words  515 to  770    numerators
 --   words  771 to 1026    denominators
 --   words 1027 to 1034    counters, tenant 0 first
-use Rattle.std.specs.Prelude.{ℕ, cond, List, [], ◌∷◌, ◌++◌, length, take, drop, ltb}
+use Rattle.std.specs.Prelude.{ℕ, ◌+◌, cond, List, [], ◌∷◌, ◌++◌, length, take, drop, ltb}
 use Rattle.limits.specs.Limits.{max_servers, tenants}
 use Rattle.lists.specs.Below.{nth}
 use Rattle.table.specs.declared.Table.{Table}
@@ -29,19 +29,19 @@ abbrev pub weights_offset : ℕ
 weights_offset = 3
 
 abbrev pub used_offset : ℕ
-used_offset = 259
+used_offset = weights_offset + max_servers
 
 abbrev pub numerators_offset : ℕ
-numerators_offset = 515
+numerators_offset = used_offset + max_servers
 
 abbrev pub denominators_offset : ℕ
-denominators_offset = 771
+denominators_offset = numerators_offset + max_servers
 
 abbrev pub counters_offset : ℕ
-counters_offset = 1027
+counters_offset = denominators_offset + max_servers
 
 abbrev pub table_length : ℕ
-table_length = 1035
+table_length = counters_offset + tenants
 
 -- the column that begins at a word
 abbrev pub column_from : List ℕ → ℕ → List ℕ

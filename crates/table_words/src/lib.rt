@@ -6,26 +6,27 @@ ghost use Rattle.std.proofs.Math.Seq.{paste};
 ghost use Rattle.table.specs.Parts.{table_of};
 ghost use Rattle.table_words.specs.Words.{shape_from, table_from, with_table};
 
+use limits::{MAX_SERVERS, TENANTS};
 use table::{Shape, Table, View};
 
 // How many words a table has, where each of its numbers stands and where each of its columns and its counters begin.
-pub const TABLE_LENGTH: usize = 1035;
+pub const TABLE_LENGTH: usize = COUNTERS_OFFSET + TENANTS;
 
-pub const CAPACITY_OFFSET: usize = 0;
+const CAPACITY_OFFSET: usize = 0;
 
-pub const SALT_OFFSET: usize = 1;
+const SALT_OFFSET: usize = 1;
 
-pub const COUNT_OFFSET: usize = 2;
+const COUNT_OFFSET: usize = 2;
 
-pub const WEIGHTS_OFFSET: usize = 3;
+const WEIGHTS_OFFSET: usize = 3;
 
-pub const USED_OFFSET: usize = 259;
+pub const USED_OFFSET: usize = WEIGHTS_OFFSET + MAX_SERVERS;
 
-pub const NUMERATORS_OFFSET: usize = 515;
+pub const NUMERATORS_OFFSET: usize = USED_OFFSET + MAX_SERVERS;
 
-pub const DENOMINATORS_OFFSET: usize = 771;
+const DENOMINATORS_OFFSET: usize = NUMERATORS_OFFSET + MAX_SERVERS;
 
-pub const COUNTERS_OFFSET: usize = 1027;
+pub const COUNTERS_OFFSET: usize = DENOMINATORS_OFFSET + MAX_SERVERS;
 
 // The words of a table.
 pub type Words = [u32; TABLE_LENGTH];
