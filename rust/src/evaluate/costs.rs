@@ -120,6 +120,7 @@ fn model_table(models: &[Model], points: &[Points]) -> Table {
     let machine = |text: &str| format!("{text} {MACHINE}");
     Table {
         name: "cost-model",
+        seeded: true,
         set_up: format!(
             "archives of 1 to 256 servers of equal weights and 64 to 65,024 entries \
             used on each, up to {} in all, filled by hand and `archive_recover`; \
@@ -160,6 +161,7 @@ fn points_table(models: &[Model], points: &[Points]) -> Table {
     let names = KINDS.iter().map(|(_, name)| format!("{name} {MACHINE}"));
     Table {
         name: "cost-points",
+        seeded: true,
         set_up: "as above: ns a call timed, and in brackets by the model.".into(),
         head: row(["Servers", "entries a server"])
             .into_iter()
@@ -233,8 +235,9 @@ fn scan_table(setting: Setting) -> Table {
     let machine = |text: &str| format!("{text} {MACHINE}");
     Table {
         name: "scan",
-        set_up: "lookups that find nothing, 12 bytes an entry gone over (its id's word is read, \
-            one of three), against a plain sum of all words of the same medium."
+        seeded: true,
+        set_up: "lookups that find nothing, 12 bytes an entry gone over (every word of a block is \
+            compared), against a plain sum of all words of the same medium."
             .into(),
         head: vec![
             "Servers".into(),
@@ -271,7 +274,7 @@ pub fn run(setting: Setting, report: &mut Report) {
     );
     report.picture("cost-changes", changes);
     let batches = picture(
-        "Lookups that find, alone and in batches: timed and model",
+        "Lookups that find, alone and in batches: timed (points) and model (lines)",
         &[Kind::Hit, Kind::Batch],
         &models,
         &points,

@@ -47,7 +47,7 @@ const METHODS: [&str; 4] = [
     "consistent hashing, 100 virtual nodes, plain Rust",
 ];
 
-/// What is published of the time of a decision, section IV-B of 003.
+/// What is published of the time of a decision, the introduction of 003; section IV-B has the machine.
 const PUBLISHED_TIMES: [&str; 4] = [
     "not published",
     "not published",
@@ -67,9 +67,10 @@ fn table(count: u32, times: &[[f64; 4]]) -> Table {
     let sizes = SIZES.map(|servers| format!("{servers} servers, ns {MACHINE}"));
     Table {
         name: "decisions",
+        seeded: false,
         set_up: format!(
             "{} scattered ids over servers of one weight; the best of seven runs. The published times are of a \
-             Core2 Quad Q9650 and up to 1,200 nodes (003, section IV-B).",
+             Core2 Quad Q9650 and up to 1,200 nodes (003, introduction and section IV-B).",
             whole(u64::from(count))
         ),
         head: row(["Method", "published, a decision"]).into_iter().chain(sizes).collect(),

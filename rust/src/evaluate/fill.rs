@@ -285,6 +285,7 @@ pub fn run(setting: Setting, report: &mut Report) {
         .map(|(servers, _)| format!("fill, {servers} servers"));
     let table = Table {
         name: "fill",
+        seeded: true,
         set_up: set_up(many, check_writes(report)),
         head: ["Ids".to_string()].into_iter().chain(head).collect(),
         rows: measured.iter().map(line).collect(),

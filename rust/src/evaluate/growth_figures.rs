@@ -85,6 +85,7 @@ fn half_table(columns: &[Opened], set_up: String) -> Table {
     };
     Table {
         name: "opened-half",
+        seeded: false,
         set_up,
         head: row([
             "Figure, at N = 0.5 and 256 servers",
@@ -114,6 +115,7 @@ fn figure_table(figure: &Figure, results: &Results, set_up: &str) -> Table {
     });
     Table {
         name: figure.region,
+        seeded: true,
         set_up: set_up.into(),
         head: head.chain(["256, by the rule alone".to_string()]).collect(),
         rows: rows.collect(),
@@ -250,9 +252,10 @@ pub fn run(setting: Setting, report: &mut Report) {
     let results = all(setting, step);
     for figure in &FIGURES {
         let set_up = format!(
-            "as above, ids in sequence, 100 TB being {} data; each column is a most number of \
-                servers, and up to 8 servers it is the mean of several storages.",
-            whole(u64::from(step))
+            "as above, ids in sequence, 100 TB being {} data, of which one in {} is written to an archive; \
+                each column is a most number of servers, and up to 8 servers it is the mean of several storages.",
+            whole(u64::from(step)),
+            (step / 50).max(1)
         );
         report.table(setting, began, figure_table(figure, &results, &set_up));
         report.picture(figure.region, picture(figure, &results, &sequence));

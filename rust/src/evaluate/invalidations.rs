@@ -106,6 +106,7 @@ fn table(setting: Setting, measured: &Measured) -> Table {
     };
     Table {
         name: "table-4",
+        seeded: true,
         set_up: format!(
             "every server's volume is drawn {CHANGES} times from 0.0 up to 1.0 (a weight below {UNIT}), \
              then 1,000 ids in sequence are written; the mean of {} archives. Invalidations sent are the \

@@ -53,7 +53,7 @@ fn section(setting: Setting, each: f64) -> Vec<Vec<String>> {
     let weights = weights(setting);
     let numbers = 0..data(&weights, each);
     let mut rows = vec![row([
-        "published (Mersenne Twister, 100 draws of the volumes)",
+        "published (Mersenne Twister; 001: 100 draws of the volumes)",
         "256,000,000 on average",
         PUBLISHED,
         "not published",
@@ -91,6 +91,7 @@ fn tenth(setting: Setting, report: &mut Report) {
     let each = setting.either(100_000, 10_000);
     let table = Table {
         name: "section-4b1",
+        seeded: true,
         set_up: format!(
             "{} With {} times less data, chance alone makes the errors some {:.1} \
             times those published.",
@@ -110,6 +111,7 @@ pub fn run_whole(setting: Setting, report: &mut Report) {
     let each = setting.either(1_000_000, 20_000);
     let table = Table {
         name: "section-4b1-whole",
+        seeded: true,
         set_up: set_up(each),
         head: head(),
         rows: section(setting, each as f64),
@@ -151,6 +153,7 @@ fn cause(setting: Setting, report: &mut Report) {
         began,
         Table {
             name: "cause",
+            seeded: false,
             set_up: format!(
                 "the write rule in plain Rust with four draws on ids in sequence from 0 \
             on, {} for each server, all of one weight; largest error of a server.",
@@ -202,6 +205,7 @@ fn all_ids(setting: Setting, report: &mut Report) {
         began,
         Table {
             name: "all-ids",
+            seeded: false,
             set_up:
                 "servers of one weight, `archive_picks`, salt 0; 1,073,741,824 are all ids, and \
             fewer are the first so many of the scattered ones, which lie all over the \

@@ -28,9 +28,9 @@ struct Added {
     picked_anew: u32,
 }
 
-fn picks(servers: usize, ids: &[u32]) -> Vec<u32> {
+fn picks(weights: &[u32], ids: &[u32]) -> Vec<u32> {
     let mut picked = vec![0; ids.len()];
-    let stored = proved::picks(&vec![CAPACITY; servers], 0, ids, &mut picked);
+    let stored = proved::picks(weights, 0, ids, &mut picked);
     assert_eq!(stored, ids.len(), "the weights are in range");
     picked
 }
@@ -62,7 +62,8 @@ fn added(servers: usize) -> Added {
     store.each(&list, |at, reply| {
         found += u32::from(reply.refusal == 0 && reply.value == ids[at])
     });
-    let [old, new] = [servers, servers + 1].map(|servers| picks(servers, &ids));
+    let old = picks(&vec![CAPACITY; servers], &ids);
+    let new = picks(&free, &ids);
     Added {
         ids: ids.len() as u32,
         altered,
@@ -111,6 +112,7 @@ fn table(measured: &[(usize, Added, [u32; 2])]) -> Table {
         .map(|(servers, added, others)| line(*servers, added, *others));
     Table {
         name: "moved",
+        seeded: false,
         set_up: format!(
             "servers of {CAPACITY} entries; {WRITTEN} ids in sequence for each server are written; then a server \
              is added and every weight set to the entries that are free. ASURA with segments of length 1 and a \

@@ -112,6 +112,7 @@ fn shown_table(outcome: &Outcome, id: u32, set_up: String) -> Table {
     });
     Table {
         name: "table-3-id",
+        seeded: true,
         set_up,
         head: row([
             "Server",
@@ -134,6 +135,7 @@ fn table(all: &[Outcome], data: u32) -> Table {
     let line = |name: &str, published: &str, measured: String| row([name, published, &measured]);
     Table {
         name: "table-3",
+        seeded: true,
         set_up: format!(
             "one server at first and one more after each {} writes, up to six; every volume drawn anew from \
              0.0 up to 1.0 at each step; ids from 0, and from 0 again at four servers; then every id is \

@@ -127,6 +127,7 @@ pub fn run(setting: Setting, report: &mut Report) {
     let ids = setting.either(8_000_000, 800_000) as u32;
     let table = Table {
         name: "section-4c",
+        seeded: false,
         set_up: format!(
             "8 servers; the reads are those of an archive that grows from 1 server to 8, {} writes at each \
              and {} at the last, {SCALE} times fewer than published; what a server's weight was is not \

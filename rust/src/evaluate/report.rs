@@ -32,6 +32,8 @@ impl Setting {
 pub struct Table {
     /// The name of its region in the document.
     pub name: &'static str,
+    /// Whether the seed makes a difference.
+    pub seeded: bool,
     /// What was done, a sentence or more.
     pub set_up: String,
     pub head: Vec<String>,
@@ -112,9 +114,13 @@ impl Report {
     /// Prints a table and keeps it, with its seed and the time since `began`.
     pub fn table(&mut self, setting: Setting, began: Instant, table: Table) {
         let took = began.elapsed().as_secs_f64();
+        let seed = match table.seeded {
+            true => format!("Seed {}.", setting.seed),
+            false => "No seed.".into(),
+        };
         let said = format!(
-            "Set-up: {} Seed {}. Run time {took:.1} s {MACHINE}.",
-            table.set_up, setting.seed
+            "Set-up: {} {seed} Run time {took:.1} s {MACHINE}.",
+            table.set_up
         );
         let text = format!("{}\n\n{}", wrapped(&said, 130), markdown(&table));
         println!("## {}\n\n{text}", table.name);
@@ -188,6 +194,7 @@ mod tests {
     fn tables_line_up() {
         let table = Table {
             name: "one",
+            seeded: true,
             set_up: String::new(),
             head: row(["a", "long"]),
             rows: vec![row(["wide", "b"])],

@@ -67,6 +67,7 @@ fn table_1(setting: Setting, report: &mut Report) {
     let tb = |count: u64| count as f64 * 600.0 / data as f64;
     let table = Table {
         name: "table-1",
+        seeded: true,
         set_up: format!(
             "{} ids over 6 servers of one weight, 100 TB each, an id being 1 GB; `archive_picks`, salt 0; \
              scattered ids are the same numbers times {FACTOR} modulo 2^30, or modulo 2^27 with the \
@@ -221,11 +222,13 @@ fn table_2(setting: Setting, report: &mut Report) {
     let errors = errors_2(&all, scale);
     let table = Table {
         name: "table-2",
+        seeded: true,
         set_up: format!(
             "two servers at first, one more after every second round up to six; in each of ten rounds \
              every server gets a volume drawn from 0.0 up to 1.0 (a weight below {UNIT}), and {} ids for \
              each 1.0 of volume are filed by `archive_picks`. The published volumes of the rounds are not \
-             known, so ours are other ones and only the errors can be compared.",
+             known, so ours are other ones and only the errors can be compared. Server 5's published numbers are \
+             those of 001's table 2; 000's text leaves that row out.",
             whole(scale)
         ),
         head: row([
