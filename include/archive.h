@@ -73,7 +73,7 @@ extern "C" {
  * The table counts for each tenant how many servers its lookups opened: word ARCHIVE_TABLE_COUNTERS + t is the counter of tenant
  * t, and the caller may read it between calls. A counter begins at 0. Each lookup adds what its reply has as OPENED to the
  * counter of the tenant that makes it, and a batch adds what each of its replies has; no other call changes a counter. A counter
- * stops at ARCHIVE_MAX_COUNTER and stays there. No call leaves one above it, and a table that has one is unsound. In a sound
+ * stops at ARCHIVE_MAX_COUNTER and stays there. No call brings one above it, and a table that has one is unsound. In a sound
  * table the counters have no bearing on any reply, on the medium or on the other words of the table.
  */
 #define ARCHIVE_TABLE_COUNTERS 1027u
@@ -195,6 +195,8 @@ uint32_t archive_call(uint32_t *table, size_t table_words,
  * first to last, and all where there are no more. The reply is that of archive_call, whatever the number is, with what it has as
  * INVALIDATED. Where burns are left over, the table is as lent; where none is, this is archive_call. With it a caller can try
  * what a writer that is cut off leaves.
+ * It also tells the order of the burns: the n-th is the word in which n - 1 and n burns differ, each made on a copy of the same
+ * words. In which order one call stores its words in memory is left to the compiler.
  * Answers the reply's refusal number; ARCHIVE_NO_CALL for any other call; or ARCHIVE_SHORT if table, call or reply have too few
  * words: then no word is changed.
  */
