@@ -178,19 +178,19 @@ fn cause(setting: Setting, report: &mut Report) {
     report.picture("cause", bars.drawn());
 }
 
-/// The share of each of six servers over all ids, and of the 16 over a quarter of them.
+/// The share of each of 6, 16 and 256 servers over all ids.
 fn all_ids(setting: Setting, report: &mut Report) {
     let began = Instant::now();
     let all = setting.either(1 << 30, 1 << 24);
     let mut rows = Vec::new();
-    for (servers, ids) in [(6, all), (16, all / 4)] {
+    for servers in [6, 16, 256] {
         let weights = vec![1; servers];
-        let counts = picked(&weights, scattered, 0..ids);
+        let counts = picked(&weights, in_sequence, 0..all);
         let errors = errors(&weights, &counts);
         let (server, error) = worst(&errors);
         rows.push(vec![
             servers.to_string(),
-            whole(ids),
+            whole(all),
             format!(
                 "{} of {:.3} %, server {server}",
                 percent(error),
@@ -206,11 +206,8 @@ fn all_ids(setting: Setting, report: &mut Report) {
         Table {
             name: "all-ids",
             seeded: false,
-            set_up:
-                "servers of one weight, `archive_picks`, salt 0; 1,073,741,824 are all ids, and \
-            fewer are the first so many of the scattered ones, which lie all over the \
-            range."
-                    .into(),
+            set_up: "servers of one weight, `archive_picks`, salt 0; 1,073,741,824 are all ids."
+                .into(),
             head: row([
                 "Servers",
                 "ids",
