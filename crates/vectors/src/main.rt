@@ -2,8 +2,8 @@
 // the stored stdout has what they should answer.
 //
 // A case is a line: a text, a bar, a letter and numbers. The letter names the call and the numbers are its arguments. The text
-// is printed with what the call answers; a call with no text is run and prints nothing. A call's answer is its refusal number,
-// server, value, opened count and number of invalidated entries. No call has the letter `;`: such a line is a comment.
+// is printed with what the call answers; a call with no text is run and prints nothing, but for words and yes or no. A call's answer is
+// its refusal number, server, value, opened count and number of invalidated entries. No call has the letter `;`: such a line is a comment.
 #![tactic(auto)]
 
 mod batches;

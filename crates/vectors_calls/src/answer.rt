@@ -41,9 +41,15 @@ impl fmt::Display for Answer<'_> {
     }
 }
 
-// Prints a line of the text and the answer, and nothing where either is missing.
+// Prints a line of the text and the answer, and nothing where there is no answer. Where there is no text, only words and yes or no are
+// printed.
 pub fn print<W: Write>(out: &mut W, text: &[u8], answer: Answer<'_>) -> io::Result<()> {
-    if text.is_empty() || matches!(answer, Answer::Nothing) {
+    let printed = match answer {
+        Answer::Nothing => false,
+        Answer::YesOrNo(_) | Answer::Words(_) => true,
+        _ => !text.is_empty(),
+    };
+    if !printed {
         return Ok(());
     }
     out.write_all(text)?;
