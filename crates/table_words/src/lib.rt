@@ -12,19 +12,19 @@ use table::{Shape, Table, View};
 // How many words a table has, where each of its numbers stands and where each of its columns and its counters begin.
 pub const TABLE_LENGTH: usize = COUNTERS_OFFSET + TENANTS;
 
-const CAPACITY_OFFSET: usize = 0;
+pub const CAPACITY_OFFSET: usize = 0;
 
-const SALT_OFFSET: usize = 1;
+pub const SALT_OFFSET: usize = 1;
 
-const COUNT_OFFSET: usize = 2;
+pub const COUNT_OFFSET: usize = 2;
 
-const WEIGHTS_OFFSET: usize = 3;
+pub const WEIGHTS_OFFSET: usize = 3;
 
 pub const USED_OFFSET: usize = WEIGHTS_OFFSET + MAX_SERVERS;
 
 pub const NUMERATORS_OFFSET: usize = USED_OFFSET + MAX_SERVERS;
 
-const DENOMINATORS_OFFSET: usize = NUMERATORS_OFFSET + MAX_SERVERS;
+pub const DENOMINATORS_OFFSET: usize = NUMERATORS_OFFSET + MAX_SERVERS;
 
 pub const COUNTERS_OFFSET: usize = DENOMINATORS_OFFSET + MAX_SERVERS;
 
@@ -70,7 +70,10 @@ pub fn store_array(words: &mut [u32], from: usize, array: &[u32])
     requires { from + length array.now ≤ length words.old }
     ensures { words.new ≡ paste words.old from array.now (length array.now) }
 {
-    words[from..from + array.len()].copy_from_slice(array);
+    // A loop, since the library's `copy_from_slice` is a `memmove`, which a library for C would then need from outside.
+    for (k, word) in array.iter().enumerate() {
+        words[from + k] = *word;
+    }
 }
 
 // Stores a table as words.
