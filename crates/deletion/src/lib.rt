@@ -24,7 +24,7 @@ pub fn delete_in(
     ensures medium { medium.new ≡ delete_some_medium (table_of table.now) medium.old tenant id burns }
 {
     checks::asked(table, medium, tenant, id, false)?;
-    let n = invalidation::invalidate(medium, table, id, 0, Mark::Deleted, burns);
+    let n = invalidation::invalidate(medium, table, id, 0, Mark::Deleted.content(), burns);
     if n == 0 {
         return Err(Refusal::NotFound);
     }

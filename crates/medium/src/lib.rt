@@ -31,13 +31,29 @@ pub enum Mark {
 }
 
 impl Mark {
+    // The content of a mark's word.
+    #[tactic(auto, unfolding(crate::specs::Word::mark_content))]
+    pub fn content(self) -> u32
+        ensures { result ≡ mark_content self }
+    {
+        self as u32
+    }
+
     // The word of a mark.
     #[tactic(auto, unfolding(crate::specs::Word::mark_content))]
     pub fn word(self) -> u32
         ensures { result ≡ mark_word (mark_content self) }
     {
-        words::tagged(MARK_TAG, self as u32)
+        mark_word(self as u32)
     }
+}
+
+// The word of a mark with a content, whichever it is.
+pub fn mark_word(content: u32) -> u32
+    requires { content < content_range }
+    ensures { result ≡ mark_word content }
+{
+    words::tagged(MARK_TAG, content)
 }
 
 // The word of a value.

@@ -60,8 +60,8 @@ pub fn write_in(
     let at = medium::entry_at(capacity, server, table.used[server] as usize);
     enter(medium, at, id, value, burns);
     let left = burns.saturating_sub(ENTRY_BURNS);
-    let mark = Mark::Replaced;
-    let invalidated = invalidation::invalidate(medium, table, id, server, mark, left);
+    let content = Mark::Replaced.content();
+    let invalidated = invalidation::invalidate(medium, table, id, server, content, left);
     Ok(Written {
         server,
         invalidated,

@@ -1,4 +1,5 @@
 -- `deletion::delete_in` meets its contract: what the tests say, and the marks of every live entry on every readable server.
+use native.Mathlib.Omega.{arith}
 use Rattle.std.proofs.lemmas.Result.{err_from_is_err_and}
 use Rattle.medium.specs.Word.{mark_content}
 use Rattle.table.specs.Parts.{table_of}
@@ -17,16 +18,17 @@ returns-in_err-asked c =
     record { reply = rw (p.1, p.2) (d.0); medium = d.1 }
 
 pub invalidate-n-requires : goal.invalidate-n-requires
-invalidate-n-requires c = (asked-ready _ _ _ _ _ (check-accepted _ c.asked.ensures c.in_ok-asked.was)).inside
+unfolding mark_content
+invalidate-n-requires c = record { all_inside = (asked-ready _ _ _ _ _ (check-accepted _ c.asked.ensures c.in_ok-asked.was)).inside; content_lt_content_range = omega (arith, c.content.ensures) }
 
 pub returns-then-n-eq0 : goal.returns-then-n-eq0
 unfolding reply_of_delete number_of delete_marks mark_content
 returns-then-n-eq0 c =
-    let d = deleted-none (table_of c.args.table.now) c.args.medium.now c.args.tenant c.args.id (check-accepted _ c.asked.ensures c.in_ok-asked.was) c.args.burns _ _ c.invalidate-n.ensures.count c.invalidate-n.ensures.words c.if-n-eq0.true in
+    let d = deleted-none (table_of c.args.table.now) c.args.medium.now c.args.tenant c.args.id (check-accepted _ c.asked.ensures c.in_ok-asked.was) c.args.burns _ _ c.invalidate-n.ensures.count (rw c.content.ensures at c.invalidate-n.ensures.words) c.if-n-eq0.true in
     record { reply = d.0; medium = d.1 }
 
 pub returns : goal.returns
 unfolding reply_of_delete delete_marks mark_content
 returns c =
-    let d = deleted-done (table_of c.args.table.now) c.args.medium.now c.args.tenant c.args.id (check-accepted _ c.asked.ensures c.in_ok-asked.was) c.args.burns _ _ c.invalidate-n.ensures.count c.invalidate-n.ensures.words c.if-n-eq0.false in
+    let d = deleted-done (table_of c.args.table.now) c.args.medium.now c.args.tenant c.args.id (check-accepted _ c.asked.ensures c.in_ok-asked.was) c.args.burns _ _ c.invalidate-n.ensures.count (rw c.content.ensures at c.invalidate-n.ensures.words) c.if-n-eq0.false in
     record { reply = d.0; medium = d.1 }

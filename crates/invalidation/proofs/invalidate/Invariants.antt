@@ -2,7 +2,6 @@
 use mathlib.Core.Bool.{Bool, ◌&&◌}
 use Prim.Native.Nat.{ℕ}
 use lib.Dec.{leb}
-use Rattle.medium.specs.Word.{mark_content}
 use Rattle.table.specs.declared.Table.{Table}
 use Rattle.table.specs.Parts.{table_of, used_of, reads}
 use Rattle.invalidation.proofs.Invalidating.{Done}
@@ -15,4 +14,4 @@ passes t id from k = leb from k && reads t id k
 abbrev pub invariant-loop-k : goal.invariant-loop-k
 invariant-loop-k l =
     let t = table_of l.table in
-    Done t.capacity t.count (used_of t) l.initial.medium l.id (passes t l.id l.from) (mark_content l.mark) l.burns l.k l.medium l.n
+    Done t.capacity t.count (used_of t) l.initial.medium l.id (passes t l.id l.from) l.content l.burns l.k l.medium l.n

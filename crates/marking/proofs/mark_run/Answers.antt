@@ -1,23 +1,24 @@
--- `marking::mark_run` meets its contract. The invariant: the entries passed are done, as `Marked` says.
-use Rattle.std.proofs.Common.{refl, ◌∙◌}
-use Rattle.medium.specs.Word.{mark_content}
-use Rattle.marking.proofs.Marked.{none-marked, one-not, one-marked, one_left}
+-- `marking::mark_run` meets its contract. The invariant: the groups passed are done, as `Marked` says.
+use Rattle.std.proofs.Common.{◌≡◌, ◌+◌, ◌*◌, ◌/◌, ◌%◌, arith}
+use Rattle.marking.proofs.Marked.{none-marked, more-marked}
 use Rattle.marking.proofs.mark_run.Goals as goal
-use Rattle.marking.proofs.mark_run.Goals.{else-bears, else-marks-burns, then-bears, then-marks-burns}
 
-pub loop-i-init : goal.loop-i-init
-loop-i-init c =
+pub loop-group-init : goal.loop-group-init
+loop-group-init c =
     let a = c.args in
-    none-marked a.medium.now a.id a.from (mark_content a.mark) a.burns a.counted
+    none-marked a.medium.now a.id a.from a.content a.burns a.counted
 
-pub loop-i-preserved : goal.loop-i-preserved
-loop-i-preserved c =
-    let done = c.loop-i.invariant in
-    let test = c.bears.ensures in
-    elim c.if-bears.branch [
-      | then-bears w ↦ (elim w.if-marks-burns.branch [
-        | then-marks-burns x ↦ one-marked done refl test w.if-bears.true w.marks-is x.if-marks-burns.true (w.medium-is ∙ rw x.word.ensures at x.medium-is)
-        | else-marks-burns x ↦ one_left done refl test w.if-bears.true w.marks-is x.if-marks-burns.false (w.medium-is ∙ x.medium-is)
-      ])
-      | else-bears w ↦ one-not done refl test w.if-bears.false w.marks-is w.medium-is
-    ]
+pub loop-group-preserved : goal.loop-group-preserved
+loop-group-preserved c =
+    let place : c.args.from + 12 * c.loop-group.group ≡ c.args.from + 3 * (4 * c.loop-group.group) = omega arith in
+    let next : 4 * (c.loop-group.group + 1) ≡ 4 * c.loop-group.group + 4 = omega arith in
+    rw next (more-marked c.loop-group.invariant 4 place c.mark_few-marks.ensures.count c.mark_few-marks.ensures.words)
+
+pub returns : goal.returns
+returns c =
+    let a = c.args in
+    let rest = a.n % 4 in
+    let place : a.from + 12 * (a.n / 4) ≡ a.from + 3 * (4 * c.loop-group.group) = omega arith in
+    let whole : 4 * c.loop-group.group + rest ≡ a.n = omega arith in
+    let done = rw whole at (more-marked c.loop-group.invariant rest place c.mark_few.ensures.count c.mark_few.ensures.words) in
+    record { count = done.count; words = done.words }

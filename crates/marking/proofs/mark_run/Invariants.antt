@@ -1,7 +1,7 @@
--- `marking::mark_run` meets its contract. The invariant: the entries passed are done, as `Marked` says.
-use Rattle.medium.specs.Word.{mark_content}
+-- `marking::mark_run` meets its contract. The invariant: the groups passed are done, as `Marked` says.
+use Rattle.std.proofs.Common.{◌*◌}
 use Rattle.marking.proofs.Marked.{Marked}
 use Rattle.marking.proofs.mark_run.Given as goal
 
-abbrev pub invariant-loop-i : goal.invariant-loop-i
-invariant-loop-i l = Marked l.initial.medium l.id l.from (mark_content l.mark) l.burns l.counted l.i l.medium l.marks
+abbrev pub invariant-loop-group : goal.invariant-loop-group
+invariant-loop-group l = Marked l.initial.medium l.id l.from l.content l.burns l.counted (4 * l.group) l.medium l.marks

@@ -34,14 +34,15 @@ enter-requires c =
     record { value_place_in_bounds = omega (arith, c.entry_at-at.ensures, p.words); value_lt_content_range = p.small }
 
 pub invalidate-invalidated-requires : goal.invalidate-invalidated-requires
+unfolding mark_content
 invalidate-invalidated-requires c =
     let p = placed _ _ _ _ _ _ (check-accepted _ c.plan_write.ensures.number c.in_ok-server.was) c.in_ok-server.ensures.server in
-    rw c.enter.ensures (inside-burned _ _ _ _ _ p.inside)
+    record { all_inside = rw c.enter.ensures (inside-burned _ _ _ _ _ p.inside); content_lt_content_range = omega (arith, c.content-content.ensures) }
 
 pub returns : goal.returns
 unfolding reply_of_write mark_content
 returns c =
     let z = check-accepted _ c.plan_write.ensures.number c.in_ok-server.was in
     let w = written (table_of c.args.table.now) c.args.medium.now c.args.tenant c.args.id c.args.value c.args.burns z c.in_ok-server.server c.entry_at-at.result _ c.saturating_sub-left.result _ c.in_ok-server.ensures.server c.entry_at-at.ensures
-    (search rules) (rw c.enter.ensures at c.invalidate-invalidated.ensures.count) (rw c.enter.ensures at c.invalidate-invalidated.ensures.words) in
+    (search rules) (rw c.enter.ensures at c.invalidate-invalidated.ensures.count) (rw (c.enter.ensures, c.content-content.ensures) at c.invalidate-invalidated.ensures.words) in
     record { reply = w.0; medium = w.1 }
