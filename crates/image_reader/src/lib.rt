@@ -1,7 +1,7 @@
 // Decode: a table, read from words that are all of an image.
 #![tactic(auto)]
 
-ghost use Rattle.std.specs.Prelude.{◌≡◌, ◌≤◌, ◌+◌, true, cond, eqb, length, Some, None};
+ghost use Rattle.std.specs.Prelude.{◌≡◌, ◌≤◌, ◌+◌, ◌&&◌, true, cond, eqb, length, Some, None};
 ghost use Rattle.std.specs.Result.{result_unwrap_or};
 ghost use Rattle.limits.specs.Limits.{max_servers, tenants};
 ghost use Rattle.lists.specs.Below.{all_below, set_below};
@@ -37,6 +37,16 @@ fn content(word: u32, tag: u32) -> Option<u32>
     Some(words::content_of(word))
 }
 
+// Whether the four words of a server have their tags. All are looked at, and those of all servers below, so that the compiler reads
+// several servers at a time: with a way out at the first that has another tag, an image of 256 servers takes 1.3 times as many
+// instructions.
+fn are_tagged(weight: u32, used: u32, num: u32, den: u32) -> bool
+    ensures { result ≡ (eqb (tag_of weight) 1 && (eqb (tag_of used) 2 && (eqb (tag_of num) 0 && eqb (tag_of den) 1))) }
+{
+    (words::tag_of(weight) == 1)
+        & ((words::tag_of(used) == 2) & ((words::tag_of(num) == 0) & (words::tag_of(den) == 1)))
+}
+
 // Reads the words of a table's servers into its columns, if each word has its tag.
 fn read_servers(image: &[u32], table: &mut Table) -> Option<()>
     requires { (table.old.count ≤ max_servers) × (part_at table.old.count ≤ length image.now) }
@@ -45,14 +55,20 @@ fn read_servers(image: &[u32], table: &mut Table) -> Option<()>
     ensures table { all_below (server_tagged image.now) table.old.count ≡ true
         → table.new ≡ with_servers image.now table.old.count table.old }
 {
+    let mut tagged = true;
     for k in 0..table.count {
         let at = HEAD_WORDS + PART_WORDS * k;
-        table.weights[k] = content(image[at + WEIGHT_PLACE], 1)?;
-        table.used[k] = content(image[at + USED_PLACE], 2)?;
-        table.numerators[k] = content(image[at + NUMERATOR_PLACE], 0)?;
-        table.denominators[k] = content(image[at + DENOMINATOR_PLACE], 1)?;
+        let weight = image[at + WEIGHT_PLACE];
+        let used = image[at + USED_PLACE];
+        let num = image[at + NUMERATOR_PLACE];
+        let den = image[at + DENOMINATOR_PLACE];
+        table.weights[k] = words::content_of(weight);
+        table.used[k] = words::content_of(used);
+        table.numerators[k] = words::content_of(num);
+        table.denominators[k] = words::content_of(den);
+        tagged = are_tagged(weight, used, num, den) & tagged;
     }
-    Some(())
+    tagged.then_some(())
 }
 
 // Reads the counters, whose words begin at a word, if each word has its tag.
