@@ -5,7 +5,8 @@ use mathlib.Core.Path.{◌≡◌, refl, ap, ap₂, ◌∙◌}
 use mathlib.Core.Bool.{true, false, ◌&&◌}
 use mathlib.Core.List.{List, ◌++◌}
 use Rattle.std.specs.Array.{IsFirstChunk}
-use Rattle.std.specs.Prelude.{Option, Some}
+use Rattle.std.specs.Option.{ForSome}
+use Rattle.std.specs.Prelude.{Option, None, Some}
 use native.Mathlib.Omega.{arith}
 use lib.ListN.{length, take, drop, length-set}
 use lib.Dec.{eqb, leb}
@@ -34,26 +35,27 @@ pub count_fits : (S : State) (o : Option Call) (t : Table) → t ≡ (next_by S 
 count_fits S o t e l = omega (arith, call-count S o l, ap (λ (u : Table). u.count) e)
 
 -- to count an entry changes no length
-length-used_after : (used : List ℕ) (c : Call) (r : Reply) → length (used_after used c r) ≡ length used
+length-used_after : (used : List ℕ) (o : Option Call) (r : Reply) → length (used_after used o r) ≡ length used
 unfolding used_after one_more
-length-used_after used (AddServer _) r = refl
-length-used_after used (Reweight _ _) r = refl
-length-used_after used (Write _ _ _) r = by_bool (eqb r.refusal 0) (λ z. rw z (length-set used r.server _)) (λ z. rw z)
-length-used_after used (Delete _ _) r = refl
-length-used_after used (Lookup _ _) r = refl
+length-used_after used None r = refl
+length-used_after used (Some (AddServer _)) r = refl
+length-used_after used (Some (Reweight _ _)) r = refl
+length-used_after used (Some (Write _ _ _)) r = by_bool (eqb r.refusal 0) (λ z. rw z (length-set used r.server _)) (λ z. rw z)
+length-used_after used (Some (Delete _ _)) r = refl
+length-used_after used (Some (Lookup _ _)) r = refl
 
 -- a call but add_server and reweight, whose reply is r: where its entry is counted, and the words after it
-module _ (words m : List ℕ) (c : Call) (l : table_length ≤ length words) (r : Reply) (e : r ≡ reply_to (lent words m) (Some c)) where
-  pub counts-there : is_write c ≡ true → r.refusal ≡ 0 → (r.server < 256) × (nth (column_from words used_offset) r.server < 65536)
+module _ (words m : List ℕ) (o : Option Call) (l : table_length ≤ length words) (r : Reply) (e : r ≡ reply_to (lent words m) o) where
+  pub counts-there : ForSome o (λ c. is_write c ≡ true → r.refusal ≡ 0 → (r.server < 256) × (nth (column_from words used_offset) r.server < 65536))
   unfolding table_from
-  counts-there w z =
+  counts-there c f w z =
       let long = length-column words used_offset (omega arith) in
-      let d = counts (lent words m) c r e long w z in
+      let d = counts (lent words m) o r e long c f w z in
       (omega (arith, d.0, long), d.1)
 
   -- the table with the entry of a write counted, which has whole arrays
   abbrev entered : Table
-  entered = with_counts (table_from words) (used_after (column_from words used_offset) c r) (counters_from words)
+  entered = with_counts (table_from words) (used_after (column_from words used_offset) o r) (counters_from words)
 
   entered-arrays : Arrays entered
   unfolding table_from
@@ -61,26 +63,26 @@ module _ (words m : List ℕ) (c : Call) (l : table_length ≤ length words) (r 
       let a = lent-arrays words l in
       record {
         weights = a.weights;
-        used = length-used_after (column_from words used_offset) c r ∙ a.used;
+        used = length-used_after (column_from words used_offset) o r ∙ a.used;
         numerators = a.numerators;
         denominators = a.denominators;
         counters = a.counters;
       }
 
   -- the words after that, and after the servers opened are counted too
-  pub counted_words : on_servers c ≡ false → (words' counters : List ℕ)
-      → words' ≡ with_column words used_offset (used_after (column_from words used_offset) c r)
-      → counters ≡ counters_after (counters_from words') c r
-      → take counters_offset words' ++ (counters ++ drop 8 (drop counters_offset words')) ≡ with_table words (next_by (lent words m) (Some c)).table
+  pub counted_words : ForSome o (λ c. on_servers c ≡ false) → (words' counters : List ℕ)
+      → words' ≡ with_column words used_offset (used_after (column_from words used_offset) o r)
+      → counters ≡ counters_after (counters_from words') o r
+      → take counters_offset words' ++ (counters ++ drop 8 (drop counters_offset words')) ≡ with_table words (next_by (lent words m) o).table
   unfolding table_from
-  counted_words o words' counters f g =
-      let one : words' ≡ with_table words entered = f ∙ used-stored words (used_after (column_from words used_offset) c r) l in
+  counted_words s words' counters f g =
+      let one : words' ≡ with_table words entered = f ∙ used-stored words (used_after (column_from words used_offset) o r) l in
       let table : table_from words' ≡ entered = ap table_from one ∙ stored-lent words entered l entered-arrays in
       let long : table_length ≤ length words' = omega (arith, ap length one, length-stored words entered l entered-arrays) in
       counters-stored words' counters _ long g
-      ∙ ap₂ (λ (w : List ℕ) (t : Table). with_table w (with_counters t (counters_after t.counters c r))) one table
+      ∙ ap₂ (λ (w : List ℕ) (t : Table). with_table w (with_counters t (counters_after t.counters o r))) one table
       ∙ stored-again words entered _ l entered-arrays
-      ∙ ap (with_table words) (counted-table (lent words m) c r o e)
+      ∙ ap (with_table words) (counted-table (lent words m) o r s e)
 
 -- whether the runs are long enough, by the test of the call and its reply and by the length of the table
 module _ (table call reply : List ℕ) where

@@ -1,7 +1,8 @@
 // One call on a table lent as words. Its columns are parts of the words, so that only add_server and reweight copy them.
 #![tactic(auto)]
 
-ghost use Rattle.std.specs.Prelude.{◌≡◌, true, ◌&&◌, ◌<◌, length, leb};
+ghost use Rattle.std.specs.Prelude.{◌≡◌, true, false, ◌&&◌, ◌<◌, length, leb};
+ghost use Rattle.std.specs.Option.{ForSome, MatchOption};
 ghost use Rattle.limits.specs.Limits.{max_servers, max_capacity};
 ghost use Rattle.lists.specs.Below.{nth};
 ghost use Rattle.table_words.specs.Words.{used_offset, column_from, table_from, with_table};
@@ -17,9 +18,9 @@ use replies::Reply;
 use table_words::{COUNTERS_OFFSET, NUMERATORS_OFFSET, TABLE_LENGTH, USED_OFFSET, Words};
 
 // Counts the entry of an accepted write as used on its server.
-pub fn count(words: &mut Words, call: Call, reply: Reply)
-    requires { is_write call ≡ true → reply.refusal ≡ 0
-        → (reply.server < max_servers) × (nth (column_from words.old used_offset) reply.server < max_capacity) }
+pub fn count(words: &mut Words, call: Option<Call>, reply: Reply)
+    requires { ForSome call (λ c. is_write c ≡ true → reply.refusal ≡ 0
+        → (reply.server < max_servers) × (nth (column_from words.old used_offset) reply.server < max_capacity)) }
     ensures { words.new ≡ with_column words.old used_offset (used_after (column_from words.old used_offset) call reply) }
 {
     dispatch::count_write(&mut words[USED_OFFSET..NUMERATORS_OFFSET], call, reply);
@@ -32,12 +33,20 @@ pub fn count_opened(words: &mut Words, tenant: u32, opened: usize)
     counters::count(&mut words[COUNTERS_OFFSET..TABLE_LENGTH], tenant, opened);
 }
 
+// Whether it is a call that runs on a copy of the table, since it changes the servers.
+#[tactic(auto, unfolding(calls::specs::Numbered::on_servers))]
+fn on_copy(call: Option<Call>) -> bool
+    ensures { MatchOption call (result ≡ false) (λ c. result ≡ on_servers c) }
+{
+    call.is_some_and(Call::on_servers)
+}
+
 // Runs add_server or reweight on a copy of the table, and stores it back.
-fn run_change(call: Call, table: &mut Words, medium: &[u32]) -> Reply
-    requires { on_servers call ≡ true }
-    ensures reply { result ≡ reply_to (lent table.old medium.now) (Some call) }
-    ensures table { table.new ≡ with_table table.old (next_by (lent table.old medium.now) (Some call)).table }
-    ensures medium { medium.now ≡ (next_by (lent table.old medium.now) (Some call)).medium }
+fn run_change(call: Option<Call>, table: &mut Words, medium: &[u32]) -> Reply
+    requires { ForSome call (λ c. on_servers c ≡ true) }
+    ensures reply { result ≡ reply_to (lent table.old medium.now) call }
+    ensures table { table.new ≡ with_table table.old (next_by (lent table.old medium.now) call).table }
+    ensures medium { medium.now ≡ (next_by (lent table.old medium.now) call).medium }
 {
     let mut changed = table_words::view_of(table).to_table();
     let reply = dispatch::run_change(call, &mut changed, medium);
@@ -52,10 +61,7 @@ pub fn run(call: Option<Call>, table: &mut Words, medium: &mut [u32]) -> Reply
     ensures table { table.new ≡ with_table table.old (next_by (lent table.old medium.old) call).table }
     ensures medium { medium.new ≡ (next_by (lent table.old medium.old) call).medium }
 {
-    let Some(call) = call else {
-        return dispatch::no_call();
-    };
-    if call.on_servers() {
+    if on_copy(call) {
         return run_change(call, table, medium);
     }
     let reply = dispatch::run_in(call, &table_words::view_of(table), medium);

@@ -58,16 +58,17 @@ module _ (S : State) where
   written-here (Lookup _ _) r e w = absurd (true≢false (sym w))
 
   -- the table after it, by the test whether no burn is left over
-  pub some-table : (c : Call) (r : Reply) → r ≡ some_reply S (Some c) → (n : ℕ) (b : Bool) → b ≡ leb (r.invalidated + 2) n
-      → cond b (with_counts S.table (used_after S.table.used c r) S.table.counters) S.table ≡ (some_next S (Some c) n).table
+  pub some-table : (o : Option Call) (r : Reply) → r ≡ some_reply S o → (n : ℕ) (b : Bool) → b ≡ leb (r.invalidated + 2) n
+      → cond b (with_counts S.table (used_after S.table.used o r) S.table.counters) S.table ≡ (some_next S o n).table
   unfolding some_reply some_next used_after with_entry
-  some-table (AddServer _) r e n b t = either b S.table
-  some-table (Reweight _ _) r e n b t = either b S.table
-  some-table (Write tenant id value) r e n b t = by_bool (eqb r.refusal 0)
+  some-table None r e n b t = either b S.table
+  some-table (Some (AddServer _)) r e n b t = either b S.table
+  some-table (Some (Reweight _ _)) r e n b t = either b S.table
+  some-table (Some (Write tenant id value)) r e n b t = by_bool (eqb r.refusal 0)
       (λ z. rw z (written-some S.table S.medium tenant id value r e (eqb-true r.refusal 0 z) n b t))
       (λ z. rw z (either b S.table ∙ some-kept S.table S.medium tenant id value r e (eqb-false r.refusal 0 z) n))
-  some-table (Delete _ _) r e n b t = either b S.table
-  some-table (Lookup _ _) r e n b t = either b S.table
+  some-table (Some (Delete _ _)) r e n b t = either b S.table
+  some-table (Some (Lookup _ _)) r e n b t = either b S.table
 
 -- what the code stores of its reply as a cast fits a word
 reply-small : (S : State) (o : Option Call) → Small (some_reply S o)

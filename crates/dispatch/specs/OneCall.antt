@@ -33,24 +33,26 @@ next_by S None = S
 next_by S (Some c) = next S (in_list c)
 
 -- the used entries after a call by its reply: a write that is accepted has one more on its server
-unfoldable pub used_after : List ℕ → Call → Reply → List ℕ
-used_after used (AddServer _) r = used
-used_after used (Reweight _ _) r = used
-used_after used (Write _ _ _) r = cond (eqb r.refusal 0) (one_more used r.server) used
-used_after used (Delete _ _) r = used
-used_after used (Lookup _ _) r = used
+unfoldable pub used_after : List ℕ → Option Call → Reply → List ℕ
+used_after used None r = used
+used_after used (Some (AddServer _)) r = used
+used_after used (Some (Reweight _ _)) r = used
+used_after used (Some (Write _ _ _)) r = cond (eqb r.refusal 0) (one_more used r.server) used
+used_after used (Some (Delete _ _)) r = used
+used_after used (Some (Lookup _ _)) r = used
 
 -- the counters after a call by its reply: a lookup counts the servers that it opened for its tenant
-unfoldable pub counters_after : List ℕ → Call → Reply → List ℕ
-counters_after counters (AddServer _) r = counters
-counters_after counters (Reweight _ _) r = counters
-counters_after counters (Write _ _ _) r = counters
-counters_after counters (Delete _ _) r = counters
-counters_after counters (Lookup tenant _) r = counted counters tenant r.opened
+unfoldable pub counters_after : List ℕ → Option Call → Reply → List ℕ
+counters_after counters None r = counters
+counters_after counters (Some (AddServer _)) r = counters
+counters_after counters (Some (Reweight _ _)) r = counters
+counters_after counters (Some (Write _ _ _)) r = counters
+counters_after counters (Some (Delete _ _)) r = counters
+counters_after counters (Some (Lookup tenant _)) r = counted counters tenant r.opened
 
 -- a table with other used entries and counters, and the table with what a call counts
 abbrev pub with_counts : Table → List ℕ → List ℕ → Table
 with_counts t used counters = table_by (shape_of t) t.weights used t.numerators t.denominators counters
 
-abbrev pub counted_table : Table → Call → Reply → Table
-counted_table t c r = with_counts t (used_after t.used c r) (counters_after t.counters c r)
+abbrev pub counted_table : Table → Option Call → Reply → Table
+counted_table t o r = with_counts t (used_after t.used o r) (counters_after t.counters o r)

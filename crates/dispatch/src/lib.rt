@@ -4,6 +4,7 @@
 #![tactic(auto)]
 
 ghost use Rattle.std.specs.Prelude.{◌≡◌, true, false, ◌<◌, length};
+ghost use Rattle.std.specs.Option.{ForSome};
 ghost use Rattle.limits.specs.Limits.{max_capacity};
 ghost use Rattle.lists.specs.Below.{nth};
 ghost use Rattle.table.specs.Parts.{table_of};
@@ -47,14 +48,17 @@ pub fn run_some(call: Option<Call>, burns: usize, table: &View<'_>, medium: &mut
     }
 }
 
-// Runs a call but add_server and reweight on a table that is lent. `count_write` and `count_lookup` then make the table after it.
+// Runs a call but add_server and reweight on a table that is lent, and answers `no_call` to what is no call. `count_write` and
+// `count_lookup` then make the table after it.
 #[tactic(auto, unfolding(crate::specs::OneCall::in_list, crate::specs::OneCall::reply_to, crate::specs::OneCall::next_by, history::specs::Machine::reply, history::specs::Machine::next))]
-pub fn run_in(call: Call, table: &View<'_>, medium: &mut [u32]) -> Reply
-    requires { on_servers call ≡ false }
-    ensures reply { result ≡ reply_to (record { table = table_of table.now; medium = medium.old }) (Some call) }
-    ensures medium { medium.new
-        ≡ (next_by (record { table = table_of table.now; medium = medium.old }) (Some call)).medium }
+pub fn run_in(call: Option<Call>, table: &View<'_>, medium: &mut [u32]) -> Reply
+    requires { ForSome call (λ c. on_servers c ≡ false) }
+    ensures reply { result ≡ reply_to (record { table = table_of table.now; medium = medium.old }) call }
+    ensures medium { medium.new ≡ (next_by (record { table = table_of table.now; medium = medium.old }) call).medium }
 {
+    let Some(call) = call else {
+        return no_call();
+    };
     match call {
         Call::Lookup { tenant, id } => {
             let answer = lookup::lookup_in(table, medium, tenant, id);
@@ -70,11 +74,15 @@ pub fn run_in(call: Call, table: &View<'_>, medium: &mut [u32]) -> Reply
 
 // Counts the entry of an accepted write as used on its server.
 #[tactic(auto, unfolding(crate::specs::OneCall::used_after))]
-pub fn count_write(used: &mut [u32], call: Call, reply: Reply)
-    requires { is_write call ≡ true → reply.refusal ≡ 0 → (reply.server < length used.old) × (nth used.old reply.server < max_capacity) }
+pub fn count_write(used: &mut [u32], call: Option<Call>, reply: Reply)
+    requires { ForSome call
+        (λ c. is_write c ≡ true → reply.refusal ≡ 0 → (reply.server < length used.old) × (nth used.old reply.server < max_capacity)) }
     ensures { used.new ≡ used_after used.old call reply }
 {
-    if let Call::Write { .. } = call
+    let Some(done) = call else {
+        return;
+    };
+    if let Call::Write { .. } = done
         && reply.refusal == 0
     {
         upkeep::count_entry(used, reply.server);
@@ -83,23 +91,26 @@ pub fn count_write(used: &mut [u32], call: Call, reply: Reply)
 
 // Counts the servers that a lookup opened for its tenant.
 #[tactic(auto, unfolding(crate::specs::OneCall::counters_after))]
-pub fn count_lookup(counters: &mut [u32], call: Call, reply: Reply)
+pub fn count_lookup(counters: &mut [u32], call: Option<Call>, reply: Reply)
     ensures { counters.new ≡ counters_after counters.old call reply }
 {
-    if let Call::Lookup { tenant, .. } = call {
+    if let Some(Call::Lookup { tenant, .. }) = call {
         counters::count(counters, tenant, reply.opened);
     }
 }
 
-// Runs add_server or reweight, which have no tenant and only read the medium.
+// Runs add_server or reweight, which have no tenant and only read the medium, and answers `no_call` to what is no call.
 #[tactic(auto, unfolding(crate::specs::OneCall::in_list, crate::specs::OneCall::reply_to, crate::specs::OneCall::next_by, history::specs::Machine::reply, history::specs::Machine::next))]
-pub fn run_change(call: Call, table: &mut Table, medium: &[u32]) -> Reply
-    requires { on_servers call ≡ true }
-    ensures reply { result ≡ reply_to (record { table = table.old; medium = medium.now }) (Some call) }
-    ensures table { table.new ≡ (next_by (record { table = table.old; medium = medium.now }) (Some call)).table }
-    ensures medium { medium.now ≡ (next_by (record { table = table.old; medium = medium.now }) (Some call)).medium }
+pub fn run_change(call: Option<Call>, table: &mut Table, medium: &[u32]) -> Reply
+    requires { ForSome call (λ c. on_servers c ≡ true) }
+    ensures reply { result ≡ reply_to (record { table = table.old; medium = medium.now }) call }
+    ensures table { table.new ≡ (next_by (record { table = table.old; medium = medium.now }) call).table }
+    ensures medium { medium.now ≡ (next_by (record { table = table.old; medium = medium.now }) call).medium }
 {
-    match call {
+    let Some(change) = call else {
+        return no_call();
+    };
+    match change {
         Call::AddServer { weight } => {
             let server = servers::add_server(table, medium, weight);
             replies::server_reply(server)

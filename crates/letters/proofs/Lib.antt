@@ -1,1 +1,1 @@
-mod Letters
+pub mod Letters

@@ -23,13 +23,14 @@ delete_letter = 68
 abbrev pub lookup_letter : ℕ
 lookup_letter = 76
 
--- each call has one letter
-unfoldable pub letter_of : Call → ℕ
-letter_of (AddServer _) = add_server_letter
-letter_of (Reweight _ _) = reweight_letter
-letter_of (Write _ _ _) = write_letter
-letter_of (Delete _ _) = delete_letter
-letter_of (Lookup _ _) = lookup_letter
+-- each call has one letter, and what is no call has 0
+unfoldable pub letter_of : Option Call → ℕ
+letter_of None = 0
+letter_of (Some (AddServer _)) = add_server_letter
+letter_of (Some (Reweight _ _)) = reweight_letter
+letter_of (Some (Write _ _ _)) = write_letter
+letter_of (Some (Delete _ _)) = delete_letter
+letter_of (Some (Lookup _ _)) = lookup_letter
 
 -- the call of a letter and its numbers, where the letter has one: F has a weight; G has a server and its weight; W has an id and its
 -- value; D and L have an id. Such a call is the id's own tenant's, and that of an id of 2^30 or more is out of range as the id is.

@@ -20,17 +20,18 @@ const DELETE: u8 = b'D';
 
 const LOOKUP: u8 = b'L';
 
-// Answers the letter of a call.
+// Answers the letter of a call, and 0 for what is no call.
 #[tactic(auto, unfolding(crate::specs::Letter::letter_of))]
-pub fn letter_of(call: Call) -> u8
+pub fn letter_of(call: Option<Call>) -> u8
     ensures { result ≡ letter_of call }
 {
     match call {
-        Call::AddServer { .. } => ADD_SERVER,
-        Call::Reweight { .. } => REWEIGHT,
-        Call::Write { .. } => WRITE,
-        Call::Delete { .. } => DELETE,
-        Call::Lookup { .. } => LOOKUP,
+        Some(Call::AddServer { .. }) => ADD_SERVER,
+        Some(Call::Reweight { .. }) => REWEIGHT,
+        Some(Call::Write { .. }) => WRITE,
+        Some(Call::Delete { .. }) => DELETE,
+        Some(Call::Lookup { .. }) => LOOKUP,
+        None => 0,
     }
 }
 

@@ -9,5 +9,5 @@ use Rattle.sheet_call.specs.SheetCall.{call_run}
 -- a start, a call, or a line that can't be read
 unfoldable pub line_run : Sheet → Option Line → Done
 line_run s (Some (line.Start capacity)) = start_run s capacity
-line_run s (Some (line.Call call)) = call_run s s.table call
+line_run s (Some (line.Call call)) = call_run s s.table (Some call)
 line_run s None = record { bytes = question; sheet = s }

@@ -46,6 +46,6 @@ pub fn run_line(
     };
     match line {
         Line::Start(capacity) => sheet_start::run_start(in_use, medium, capacity, out, at),
-        Line::Call(call) => sheet_call::run_call(in_use, medium, call, out, at),
+        Line::Call(call) => sheet_call::run_call(in_use, medium, Some(call), out, at),
     }
 }

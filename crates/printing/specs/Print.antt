@@ -1,5 +1,5 @@
 -- What a line prints: a letter, the refusal number or 0, and two answers; or a lone question mark.
-use Rattle.std.specs.Prelude.{ℕ, zero, suc, ◌+◌, ◌/◌, ◌%◌, cond, List, [], ◌∷◌, ◌++◌, ltb}
+use Rattle.std.specs.Prelude.{ℕ, zero, suc, ◌+◌, ◌/◌, ◌%◌, cond, List, [], ◌∷◌, ◌++◌, ltb, Option, None, Some}
 use Rattle.calls.specs.declared.Call.{Call}
 use Rattle.calls.specs.declared.Call.TheVariants.{AddServer, Reweight, Write, Delete, Lookup}
 use Rattle.replies.specs.declared.Reply.{Reply}
@@ -32,6 +32,7 @@ answers_of (Write _ _ _) r = (r.server, r.invalidated)
 answers_of (Delete _ _) r = (r.invalidated, 0)
 answers_of (Lookup _ _) r = (r.value, r.opened)
 
--- what a call prints: its letter, and of its reply the refusal number and the two answers
-unfoldable pub answered : Call → Reply → List ℕ
-answered c r = printed (letter_of c) r.refusal ((answers_of c r).0) ((answers_of c r).1)
+-- what a call prints: its letter, and of its reply the refusal number and the two answers; what is no call prints a question mark
+unfoldable pub answered : Option Call → Reply → List ℕ
+answered None r = question
+answered (Some c) r = printed (letter_of (Some c)) r.refusal ((answers_of c r).0) ((answers_of c r).1)

@@ -50,14 +50,17 @@ pub fn put_answer(
     three + 1
 }
 
-// Puts the answer line of a call.
+// Puts the answer line of a call, and a question mark for what is no call.
 #[tactic(auto, unfolding(crate::specs::Print::answers_of, crate::specs::Print::answered))]
-pub fn put_reply(out: &mut [u8], at: usize, call: Call, reply: Reply) -> usize
+pub fn put_reply(out: &mut [u8], at: usize, call: Option<Call>, reply: Reply) -> usize
     requires longest_line_in_bounds { at + longest_line ≤ length out.old }
     requires server_bound { (reply.server < 4294967296) × (reply.opened < 4294967296) × (reply.invalidated < 4294967296) }
     ensures next { result ≡ at + length (answered call reply) }
     ensures bytes { out.new ≡ sets out.old at (answered call reply) }
 {
+    let Some(call) = call else {
+        return put_question(out, at);
+    };
     let server = reply.server as u32;
     let invalidated = reply.invalidated as u32;
     let (first, second) = match call {
@@ -66,7 +69,7 @@ pub fn put_reply(out: &mut [u8], at: usize, call: Call, reply: Reply) -> usize
         Call::Delete { .. } => (invalidated, 0),
         Call::Lookup { .. } => (reply.value, reply.opened as u32),
     };
-    let letter = letters::letter_of(call);
+    let letter = letters::letter_of(Some(call));
     put_answer(out, at, letter, reply.refusal, first, second)
 }
 

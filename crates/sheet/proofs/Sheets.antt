@@ -41,19 +41,20 @@ question-short : length question ≤ 35
 unfolding question
 question-short = omega arith
 
-answered-short : (c : Call) (r : Reply) → length (answered c r) ≤ 35
+answered-short : (o : Option Call) (r : Reply) → length (answered o r) ≤ 35
 unfolding answered
-answered-short c r = short (letter_of c) r.refusal ((answers_of c r).0) ((answers_of c r).1)
+answered-short None r = question-short
+answered-short (Some c) r = short (letter_of (Some c)) r.refusal ((answers_of c r).0) ((answers_of c r).1)
 
-call-short : (s : Sheet) (o : Option Table) (c : Call) → length (call_run s o c).bytes ≤ 35
+call-short : (s : Sheet) (u : Option Table) (o : Option Call) → length (call_run s u o).bytes ≤ 35
 unfolding call_run
-call-short s None c = question-short
-call-short s (Some t) c = answered-short c _
+call-short s None o = question-short
+call-short s (Some t) o = answered-short o _
 
 line-short : (s : Sheet) (L : Option Line) → length (line_run s L).bytes ≤ 35
 unfolding line_run start_run
 line-short s (Some (line.Start capacity)) = short start_letter _ 0 0
-line-short s (Some (line.Call call)) = call-short s s.table call
+line-short s (Some (line.Call call)) = call-short s s.table (Some call)
 line-short s None = question-short
 
 -- LF ends a line

@@ -18,6 +18,6 @@ pub asked : (d : Done) (u u' : Option Table) (m out out' : List ℕ) (at next : 
     → (next ≡ at + length d.bytes) × ((out' ≡ sets out at d.bytes) × (sheet_of u' m ≡ d.sheet))
 asked d u u' m out out' at next e a = shown d e out out' at next (sheet_of u' m) a.0 a.1.0 (ap (λ (v : Option Table). sheet_of v m) a.1.1)
 
-pub too-early : (m : List ℕ) (c : Call) → call_run (sheet_of None m) None c ≡ record { bytes = question; sheet = sheet_of None m }
+pub too-early : (m : List ℕ) (o : Option Call) → call_run (sheet_of None m) None o ≡ record { bytes = question; sheet = sheet_of None m }
 unfolding call_run
-too-early m c = refl
+too-early m o = refl

@@ -3,7 +3,7 @@
 use Prim.Native.Nat.{ℕ}
 use mathlib.Core.Path.{◌≡◌}
 use mathlib.Core.List.{List}
-use Rattle.std.specs.Prelude.{Some}
+use Rattle.std.specs.Prelude.{Option, Some}
 use Rattle.table.specs.declared.Table.{Table}
 use Rattle.calls.specs.declared.Call.{Call}
 use Rattle.replies.specs.declared.Reply.{Reply}
@@ -13,10 +13,10 @@ use Rattle.printing.specs.Print.{answered}
 use Rattle.sheet_start.specs.SheetStart.{sheet_of}
 use Rattle.sheet_call.specs.SheetCall.{call_run}
 
-pub call-run : (t : Table) (m : List ℕ) (c : Call) (r : Reply) (t' : Table) (m' : List ℕ)
-    → (let S : State = record { table = t; medium = m } in r ≡ reply_to S (Some c))
-    → (let S : State = record { table = t; medium = m } in t' ≡ (next_by S (Some c)).table)
-    → (let S : State = record { table = t; medium = m } in m' ≡ (next_by S (Some c)).medium)
-    → call_run (sheet_of (Some t) m) (Some t) c ≡ record { bytes = answered c r; sheet = sheet_of (Some t') m' }
+pub call-run : (t : Table) (m : List ℕ) (o : Option Call) (r : Reply) (t' : Table) (m' : List ℕ)
+    → (let S : State = record { table = t; medium = m } in r ≡ reply_to S o)
+    → (let S : State = record { table = t; medium = m } in t' ≡ (next_by S o).table)
+    → (let S : State = record { table = t; medium = m } in m' ≡ (next_by S o).medium)
+    → call_run (sheet_of (Some t) m) (Some t) o ≡ record { bytes = answered o r; sheet = sheet_of (Some t') m' }
 unfolding call_run
-call-run t m c r t' m' er et em = rw (er, et, em)
+call-run t m o r t' m' er et em = rw (er, et, em)

@@ -1,8 +1,8 @@
-// A call on a sheet runs on the table in use. Before the first accepted S it gets a question mark. What it prints goes to the lent
-// buffer, from a position on. What is lent stands apart, as in sheet_start.
+// A call on a sheet runs on the table in use. Before the first accepted S it gets a question mark, and what is no call gets one always.
+// What is printed goes to the lent buffer, from a position on. What is lent stands apart, as in sheet_start.
 #![tactic(auto)]
 
-ghost use Rattle.std.specs.Prelude.{◌≡◌, ◌+◌, ◌≤◌, length, Some};
+ghost use Rattle.std.specs.Prelude.{◌≡◌, ◌+◌, ◌≤◌, length};
 ghost use Rattle.std.proofs.lemmas.List.Edits.{sets};
 ghost use Rattle.dispatch.specs.OneCall.{reply_to, next_by};
 ghost use Rattle.printing.specs.Print.{longest_line};
@@ -14,12 +14,12 @@ use replies::Reply;
 use table::Table;
 
 // Runs a call on the table in use. The same on a table lent as words is `run` of call_words, which says why they are two.
-fn run(call: Call, table: &mut Table, medium: &mut [u32]) -> Reply
-    ensures reply { result ≡ reply_to (record { table = table.old; medium = medium.old }) (Some call) }
-    ensures table { table.new ≡ (next_by (record { table = table.old; medium = medium.old }) (Some call)).table }
-    ensures medium { medium.new ≡ (next_by (record { table = table.old; medium = medium.old }) (Some call)).medium }
+fn run(call: Option<Call>, table: &mut Table, medium: &mut [u32]) -> Reply
+    ensures reply { result ≡ reply_to (record { table = table.old; medium = medium.old }) call }
+    ensures table { table.new ≡ (next_by (record { table = table.old; medium = medium.old }) call).table }
+    ensures medium { medium.new ≡ (next_by (record { table = table.old; medium = medium.old }) call).medium }
 {
-    if call.on_servers() {
+    if call.is_some_and(Call::on_servers) {
         return dispatch::run_change(call, table, medium);
     }
     let view = table.view();
@@ -33,7 +33,7 @@ fn run(call: Call, table: &mut Table, medium: &mut [u32]) -> Reply
 pub fn run_call(
     in_use: &mut Option<Table>,
     medium: &mut [u32],
-    call: Call,
+    call: Option<Call>,
     out: &mut [u8],
     at: usize,
 ) -> usize

@@ -20,11 +20,8 @@ fn run(call: Option<Call>, burns: usize, table: &mut Words, medium: &mut [u32]) 
 {
     let view = table_words::view_of(table);
     let reply = dispatch::run_some(call, burns, &view, medium);
-    // Tried: one `if` of both tests. Where it does not hold, the check then has no name for the fact that there is no call.
-    if let Some(call) = call {
-        if writing::is_whole(reply.invalidated, burns) {
-            call_words::count(table, call, reply);
-        }
+    if writing::is_whole(reply.invalidated, burns) {
+        call_words::count(table, call, reply);
     }
     reply
 }

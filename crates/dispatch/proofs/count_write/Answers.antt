@@ -6,8 +6,8 @@ use Rattle.dispatch.proofs.count_write.Goals as goal
 
 pub count_entry-requires-clause-server_in_bounds : goal.count_entry-requires-clause-server_in_bounds
 unfolding is_write
-count_entry-requires-clause-server_in_bounds c = (c.requires (ap is_write c.in-Write.is) c.if-reply-eq0.true).0
+count_entry-requires-clause-server_in_bounds c = (c.requires _ c.in-Some.is (ap is_write c.in-Write.is) c.if-reply-eq0.true).0
 
 pub count_entry-requires-clause-server_bound : goal.count_entry-requires-clause-server_bound
 unfolding is_write
-count_entry-requires-clause-server_bound c = omega (arith, (c.requires (ap is_write c.in-Write.is) c.if-reply-eq0.true).1)
+count_entry-requires-clause-server_bound c = omega (arith, (c.requires _ c.in-Some.is (ap is_write c.in-Write.is) c.if-reply-eq0.true).1)

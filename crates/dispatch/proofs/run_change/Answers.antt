@@ -2,5 +2,6 @@
 use Rattle.dispatch.proofs.Calling.{no-other}
 use Rattle.dispatch.proofs.run_change.Goals as goal
 
-pub returns-in_default : goal.returns-in_default
-returns-in_default c = absurd (no-other c.args.call c.requires c.in_default.not-AddServer c.in_default.not-Reweight)
+pub returns-in_default-change : goal.returns-in_default-change
+returns-in_default-change c =
+    absurd (no-other c.in-Some.change (c.requires _ c.in-Some.is) c.in_default-change.not-AddServer c.in_default-change.not-Reweight)

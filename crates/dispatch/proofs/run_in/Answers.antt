@@ -3,8 +3,11 @@ use mathlib.Core.Path.{◌∙◌}
 use Rattle.dispatch.proofs.Some.{some-reply, some-medium}
 use Rattle.dispatch.proofs.run_in.Goals as goal
 
-pub returns-in_default : goal.returns-in_default
-returns-in_default c = record {
-  reply = c.run_some.ensures.reply ∙ some-reply _ c.args.call c.requires c.in_default.not-Lookup;
-  medium = c.run_some.ensures.medium ∙ some-medium _ c.args.call c.requires c.in_default.not-Lookup;
-}
+pub returns-in_default-call : goal.returns-in_default-call
+returns-in_default-call c =
+    let lent = c.requires _ c.in-Some.is in
+    rw c.in-Some.is
+    (record {
+      reply = c.run_some.ensures.reply ∙ some-reply _ c.in-Some.call lent c.in_default-call.not-Lookup;
+      medium = c.run_some.ensures.medium ∙ some-medium _ c.in-Some.call lent c.in_default-call.not-Lookup;
+    })
