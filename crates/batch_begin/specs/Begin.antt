@@ -3,6 +3,7 @@ use Rattle.std.specs.Prelude.{ℕ, cond, List, replicate, eqb}
 use Rattle.limits.specs.Limits.{max_ids}
 use Rattle.lists.specs.Below.{nth}
 use Rattle.tenants.specs.Tenant.{out_of_range, of_another}
+use Rattle.replies.specs.declared.LookupAnswer.{LookupAnswer}
 use Rattle.batch_answer.specs.Answer.{filled, refusals_of, values_of, opened_counts_of}
 use Rattle.batch_begin.specs.declared.Parts.{Parts}
 
@@ -15,7 +16,7 @@ pub record Columns : Type 0 where
   pub ends : List ℕ
 
 -- the columns of the parts
-abbrev pub columns_of : Parts → Columns
+abbrev pub columns_of : Parts LookupAnswer → Columns
 columns_of parts = record { refusals = refusals_of parts.answers; values = values_of parts.answers; opened = opened_counts_of parts.answers; ends = parts.ends }
 
 -- the refusal of an id for which no entry was met yet: it is 8, absent, unless a test has refused the id already

@@ -9,13 +9,14 @@ use batch_answer::UNANSWERED;
 use limits::{Ids, MAX_IDS};
 use replies::{LookupAnswer, Refusal};
 
-// How far the lookups of all ids are, in the order of the ids. An answer is `NotFound` while no entry was met, which it stays
-// where no server below has one, and an end is one more than the last server opened for the id, or 0. Tried: `Option<u8>` for an
-// end was proved, and with 256 servers 256 ids took 22 % more instructions, since the library looks for a number in groups and
-// for an option one at a time. The two arrays stand beside one another, since the first is handed on whole.
+// How far the lookups of all ids are, in the order of the ids. An answer is of any type that stands for one (`Answering` of
+// batch_steps); it is `NotFound`, number 8, while no entry was met, which it stays where no server below has one. An end is one more
+// than the last server opened for the id, or 0. Tried: `Option<u8>` for an end was proved, and with 256 servers 256 ids took 22 % more
+// instructions, since the library looks for a number in groups and for an option one at a time. The two arrays stand beside one
+// another, since the first is handed on whole.
 #[derive(Clone, Copy)]
-pub struct Parts {
-    pub answers: [LookupAnswer; MAX_IDS],
+pub struct Parts<A = LookupAnswer> {
+    pub answers: [A; MAX_IDS],
     pub ends: [u16; MAX_IDS],
 }
 

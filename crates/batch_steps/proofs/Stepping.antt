@@ -5,12 +5,14 @@ use mathlib.Core.Path.{◌≡◌, refl, sym, ap, ◌∙◌}
 use mathlib.Core.Logic.{◌≢◌}
 use mathlib.Core.Bool.{Bool, true, false, cond}
 use mathlib.Core.List.{List}
-use Rattle.std.specs.Prelude.{Option, None, Some, Result, Ok, Err}
+use Rattle.std.specs.Prelude.{Option, None, Some, Result, Ok, Err, eqb}
 use native.Mathlib.Numerals.{add-one}
 use native.Mathlib.Omega.{arith}
-use lib.ListN.{set, get_or}
+use lib.ListN.{length, set, get_or}
+use Rattle.std.proofs.lemmas.List.{get_or-map, map-set}
 use borrow.Author.Tests.{eq-eqb, ne_eqb}
 use Rattle.lists.specs.Below.{nth, highest, set_below}
+use Rattle.lists.proofs.Tests.{by_bool}
 use Rattle.lists.proofs.Below.{set_below-above, set_below-more}
 use Rattle.draws.specs.Draw.{modulus, draw_of}
 use Rattle.placement.specs.declared.Fraction.{Fraction}
@@ -21,14 +23,15 @@ use Rattle.replies.specs.declared.Reply.{Reply}
 use Rattle.replies.specs.declared.Refusal.{Refusal}
 use Rattle.replies.specs.declared.Refusal.TheVariants.{NotFound}
 use Rattle.replies.specs.declared.LookupAnswer.{LookupAnswer}
-use Rattle.replies.specs.Reply.{number_of, found_or, reply_of_lookup}
+use Rattle.replies.specs.Reply.{refused, number_of, found_or, reply_of_lookup}
 use Rattle.replies.proofs.Distinct.{numbers_apart, lookup_opened}
-use Rattle.batch_answer.proofs.Columns.{column-set, column-at}
+use Rattle.batch_answer.specs.Answer.{column}
+use Rattle.batch_answer.proofs.Columns.{column-at}
 use Rattle.batch_begin.specs.declared.Parts.{Parts}
 use Rattle.lookup.specs.Lookup.{met_reply}
 use Rattle.search.proofs.Searches.{highest-at}
 use Rattle.batch_begin.specs.Begin.{Columns, columns_of}
-use Rattle.batch_steps.specs.Steps.{Progress, progress_of, visited, stepped, progress_at, with_parts, stepped_at}
+use Rattle.batch_steps.specs.Steps.{Progress, column_by, columns_by, progress_of, visited, stepped, progress_at, with_parts, stepped_at}
 
 -- the newest entry of an id is used
 pub newest-used : (capacity used : ℕ) (m : List ℕ) (id k : ℕ) {o : Option ℕ} → o ≡ highest (live capacity used m id k) used → (j : ℕ) → o ≡ Some j → j < used
@@ -64,66 +67,84 @@ module _ (read : Fraction) (shape : Shape) (used : ℕ) (m : List ℕ) (id k : �
       unfolding visited
       step-met j g h = sym (step-tested true d ∙ rw (sym f ∙ g, h, add-one p.opened, add-one k))
 
+      -- the same of an answer's numbers: it is counted first, and x are its numbers then
+      module _ {x : Reply} (c : x ≡ refused 8 (p.opened + 1)) where
+        pub counted-passed : o ≡ None → progress_of x (k + 1) ≡ next_part
+        counted-passed g = ap (λ (z : Reply). progress_of z (k + 1)) c ∙ step-passed g
+
+        pub counted-met : (j : ℕ) → o ≡ Some j → (v : Result ℕ Refusal)
+            → ((l : ℕ) → found_or v l ≡ met_reply shape.capacity m l (Some (record { server = k; entry = j })))
+            → {y : Reply} → y ≡ found_or v x.opened → progress_of y (k + 1) ≡ next_part
+        unfolding reply_of_lookup
+        counted-met j g v u {y} e =
+            let n : x.opened ≡ p.opened + 1 = ap (λ (z : Reply). z.opened) c in
+            let l : y.opened ≡ p.opened + 1 = ap (λ (z : Reply). z.opened) e ∙ lookup_opened (record { value = v; opened = x.opened }) ∙ n in
+            (λ i. record { refusal = y.refusal; value = y.value; opened = l i; end = k + 1 })
+            ∙ step-met j g (e ∙ ap (found_or v) n ∙ u (p.opened + 1))
+
 -- an answer of number 8 is absent, and no other
 absent-value : (v : Result ℕ Refusal) (n : ℕ) → (found_or v n).refusal ≡ 8 → v ≡ Err NotFound
 unfolding found_or number_of
 absent-value (Ok v) n e = absurd (omega arith)
 absent-value (Err r) n e = ap Err (numbers_apart r NotFound e)
 
--- the answer so far and the end of an id
-module _ (a : LookupAnswer) (end : ℕ) where
-  pub not-absent : a.value ≢ Err NotFound → (progress_of a end).refusal ≢ 8
-  unfolding reply_of_lookup
-  not-absent f e = f (absent-value a.value a.opened e)
+pub absent_by_value : (a : LookupAnswer) {b : Bool} → (b ≡ true → a.value ≡ Err NotFound) → (b ≡ false → a.value ≢ Err NotFound) → b ≡ eqb (reply_of_lookup a).refusal 8
+unfolding reply_of_lookup found_or number_of
+absent_by_value a {b} same other = by_bool b
+    (λ e. e ∙ sym (eq-eqb _ 8 (ap (λ (v : Result ℕ Refusal). (found_or v a.opened).refusal) (same e))))
+    (λ e. e ∙ sym (ne_eqb _ 8 (λ d. other e (absent-value a.value a.opened d))))
 
-  module _ (v : a.value ≡ Err NotFound) where
-    pub is-absent : (progress_of a end).refusal ≡ 8
-    unfolding reply_of_lookup found_or number_of
-    is-absent = rw v refl
+-- a server more is opened for an id, and an entry is met there
+pub counted_answer : (a : LookupAnswer) → (reply_of_lookup a).refusal ≡ 8
+    → reply_of_lookup (record { value = a.value; opened = a.opened + 1 }) ≡ refused 8 ((reply_of_lookup a).opened + 1)
+unfolding reply_of_lookup found_or number_of
+counted_answer a e =
+    ap (λ (v : Result ℕ Refusal). found_or v (a.opened + 1)) (absent-value a.value a.opened e)
+    ∙ ap (λ (n : ℕ). refused 8 (n + 1)) (sym (lookup_opened a))
 
-    -- a server more is opened for it, with no entry there or with one
-    pub passed-answer : (e : ℕ) → progress_of (record { value = a.value; opened = a.opened + 1 }) e
-        ≡ record { refusal = 8; value = 0; opened = (progress_of a end).opened + 1; end = e }
-    unfolding reply_of_lookup found_or number_of
-    passed-answer e = rw v refl
+pub met_answer : (a : LookupAnswer) (v : Result ℕ Refusal) → reply_of_lookup (record { value = v; opened = a.opened }) ≡ found_or v (reply_of_lookup a).opened
+unfolding reply_of_lookup
+met_answer a v = ap (found_or v) (sym (lookup_opened a))
 
-    pub met-answer : (w : Result ℕ Refusal) (e : ℕ) → progress_of (record { value = w; opened = a.opened + 1 }) e
-        ≡ record {
-          refusal = (found_or w ((progress_of a end).opened + 1)).refusal;
-          value = (found_or w ((progress_of a end).opened + 1)).value;
-          opened = (progress_of a end).opened + 1;
-          end = e;
-        }
-    unfolding reply_of_lookup
-    met-answer w e = rw (lookup_opened a, lookup_opened (record { value = w; opened = a.opened + 1 })) refl
+-- answers to lookups have the columns of their replies
+pub columns-same : (parts : Parts LookupAnswer) → columns_by reply_of_lookup parts ≡ columns_of parts
+unfolding column_by column
+columns-same parts = refl
 
--- the parts of all ids by position: read and stored
-module _ (parts : Parts) (i : ℕ) where
-  abbrev unanswered : LookupAnswer
-  unanswered = record { value = Ok 0; opened = 0 }
+-- such an answer is read at any position, since where there is none the numbers are 0
+pub part-read : (parts : Parts LookupAnswer) (i : ℕ)
+    → (let unanswered : LookupAnswer = record { value = Ok 0; opened = 0 } in
+    progress_of (reply_of_lookup (get_or parts.answers i unanswered)) (nth parts.ends i) ≡ progress_at (columns_of parts) i)
+unfolding reply_of_lookup found_or
+part-read parts i =
+    let unanswered : LookupAnswer = record { value = Ok 0; opened = 0 } in
+    let r = column-at (λ (x : Reply). x.refusal) parts.answers i unanswered refl in
+    let v = column-at (λ (x : Reply). x.value) parts.answers i unanswered refl in
+    let o = column-at (λ (x : Reply). x.opened) parts.answers i unanswered refl in
+    λ k. record { refusal = sym r k; value = sym v k; opened = sym o k; end = nth parts.ends i }
 
-  pub part-read : progress_of (get_or parts.answers i unanswered) (nth parts.ends i) ≡ progress_at (columns_of parts) i
-  unfolding reply_of_lookup found_or
-  part-read =
-      let r = column-at (λ (x : Reply). x.refusal) parts.answers i unanswered refl in
-      let v = column-at (λ (x : Reply). x.value) parts.answers i unanswered refl in
-      let o = column-at (λ (x : Reply). x.opened) parts.answers i unanswered refl in
+-- the parts of all ids by position, whatever numbers their answers have: read and stored
+module _ {A : Type 0} (numbers : A → Reply) (parts : Parts A) (i : ℕ) where
+  pub element-read : i < length parts.answers → (d : A) → progress_of (numbers (get_or parts.answers i d)) (nth parts.ends i) ≡ progress_at (columns_by numbers parts) i
+  unfolding column_by
+  element-read l d =
+      let r = get_or-map (λ (x : A). (numbers x).refusal) parts.answers i d 0 l in
+      let v = get_or-map (λ (x : A). (numbers x).value) parts.answers i d 0 l in
+      let o = get_or-map (λ (x : A). (numbers x).opened) parts.answers i d 0 l in
       λ k. record { refusal = sym r k; value = sym v k; opened = sym o k; end = nth parts.ends i }
 
-  pub opened-read : (get_or parts.answers i unanswered).opened ≡ nth (columns_of parts).opened i
-  opened-read = sym (lookup_opened (get_or parts.answers i unanswered)) ∙ ap (λ (p : Progress). p.opened) part-read
-
-  pub part-stored : (a : LookupAnswer) (e : ℕ) → columns_of (record { answers = set parts.answers i a; ends = set parts.ends i e })
+  pub part-stored : (a : A) (e : ℕ) → columns_by numbers (record { answers = set parts.answers i a; ends = set parts.ends i e })
       ≡ record {
-        refusals = set (columns_of parts).refusals i (progress_of a e).refusal;
-        values = set (columns_of parts).values i (progress_of a e).value;
-        opened = set (columns_of parts).opened i (progress_of a e).opened;
-        ends = set (columns_of parts).ends i e;
+        refusals = set (columns_by numbers parts).refusals i (numbers a).refusal;
+        values = set (columns_by numbers parts).values i (numbers a).value;
+        opened = set (columns_by numbers parts).opened i (numbers a).opened;
+        ends = set (columns_by numbers parts).ends i e;
       }
+  unfolding column_by
   part-stored a e =
-      let r = column-set (λ (x : Reply). x.refusal) parts.answers i a in
-      let v = column-set (λ (x : Reply). x.value) parts.answers i a in
-      let o = column-set (λ (x : Reply). x.opened) parts.answers i a in
+      let r = map-set (λ (x : A). (numbers x).refusal) parts.answers i a in
+      let v = map-set (λ (x : A). (numbers x).value) parts.answers i a in
+      let o = map-set (λ (x : A). (numbers x).opened) parts.answers i a in
       λ k. record { refusals = r k; values = v k; opened = o k; ends = set parts.ends i e }
 
 -- server k for the ids below n
@@ -147,15 +168,15 @@ module _ (read : Fraction) (shape : Shape) (used : ℕ) (m ids : List ℕ) (k : 
   )
 
   -- one position more, as a loop counts
-  pub part-more : {p : Progress} → p ≡ stepped read shape used m (nth ids n) k (progress_at next n) → record {
+  pub part-more : {p o : Progress} → p ≡ stepped read shape used m (nth ids n) k o → o ≡ progress_at next n → record {
     refusals = set next.refusals n p.refusal;
     values = set next.values n p.value;
     opened = set next.opened n p.opened;
     ends = set next.ends n p.end;
   } ≡ with_parts part_at (n + 1) parts
   unfolding with_parts stepped_at
-  part-more {p} d =
-      let q : p ≡ part_at n = d ∙ ap (stepped read shape used m (nth ids n) k) part-here in
+  part-more {p} d f =
+      let q : p ≡ part_at n = d ∙ ap (stepped read shape used m (nth ids n) k) (f ∙ part-here) in
       rw (
         set_below-more (λ i. (part_at i).refusal) n parts.refusals next.refusals _ (ap (λ (x : Columns). x.refusals) e) (ap (λ (x : Progress). x.refusal) q),
         set_below-more (λ i. (part_at i).value) n parts.values next.values _ (ap (λ (x : Columns). x.values) e) (ap (λ (x : Progress). x.value) q),

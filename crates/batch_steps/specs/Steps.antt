@@ -1,5 +1,5 @@
 -- A batch step by step, for the contracts of the functions that run it: what one server makes of one id's part in it.
-use Rattle.std.specs.Prelude.{ℕ, suc, cond, ◌&&◌, List, length, eqb, Option, None, Some}
+use Rattle.std.specs.Prelude.{ℕ, suc, cond, ◌&&◌, List, map, length, eqb, Option, None, Some}
 use Rattle.lists.specs.Below.{nth, highest, set_below}
 use Rattle.draws.specs.Draw.{modulus, draw_of}
 use Rattle.placement.specs.declared.Fraction.{Fraction}
@@ -7,8 +7,8 @@ use Rattle.placement.specs.Fraction.{exceeds}
 use Rattle.medium.specs.Entry.{live}
 use Rattle.table.specs.declared.Shape.{Shape}
 use Rattle.lookup.specs.Lookup.{met_reply}
-use Rattle.replies.specs.declared.LookupAnswer.{LookupAnswer}
-use Rattle.replies.specs.Reply.{reply_of_lookup}
+use Rattle.replies.specs.declared.Reply.{Reply}
+use Rattle.batch_begin.specs.declared.Parts.{Parts}
 use Rattle.batch_begin.specs.Begin.{Columns}
 
 -- How far the lookup of one id in a batch is: its number of each column.
@@ -18,11 +18,22 @@ pub record Progress : Type 0 where
   pub opened : ℕ
   pub end : ℕ
 
--- the same by its answer so far and its end
-abbrev pub progress_of : LookupAnswer → ℕ → Progress
-progress_of answer end =
-    let r = reply_of_lookup answer in
-    record { refusal = r.refusal; value = r.value; opened = r.opened; end = end }
+-- the same by the numbers of its answer so far and its end
+abbrev pub progress_of : Reply → ℕ → Progress
+progress_of r end = record { refusal = r.refusal; value = r.value; opened = r.opened; end = end }
+
+-- one number of each reply that an answer so far stands for, as a column
+unfoldable pub column_by : {A : Type 0} → (A → Reply) → (Reply → ℕ) → List A → List ℕ
+column_by numbers part answers = map (λ a. part (numbers a)) answers
+
+-- the columns of the parts whose answers so far have these numbers
+abbrev pub columns_by : {A : Type 0} → (A → Reply) → Parts A → Columns
+columns_by numbers parts = record {
+  refusals = column_by numbers (λ r. r.refusal) parts.answers;
+  values = column_by numbers (λ r. r.value) parts.answers;
+  opened = column_by numbers (λ r. r.opened) parts.answers;
+  ends = parts.ends;
+}
 
 -- server k is opened for an id, and `opened` is the number of servers opened with it; an entry there ends the search
 unfoldable pub visited : ℕ → List ℕ → ℕ → ℕ → Option ℕ → Progress

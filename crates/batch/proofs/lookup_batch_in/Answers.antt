@@ -11,8 +11,9 @@ use Rattle.table.specs.Parts.{table_of}
 use Rattle.replies.specs.Refusal.{first_of, settle}
 use Rattle.checks.specs.Ready.{ready_rows}
 use Rattle.search.proofs.Finding.{each-inside}
-use Rattle.batch_answer.specs.Answer.{refused_batch, reply_of_batch}
+use Rattle.batch_answer.specs.Answer.{column, refused_batch, reply_of_batch}
 use Rattle.batch_begin.specs.Begin.{Columns, columns_of}
+use Rattle.batch_steps.specs.Steps.{column_by}
 use Rattle.batch.proofs.BatchParts.{BatchFrom, servers, batch-refused, batch-start, mounted-few, ready-there, opened-few, answers-few, batch-opened, batch-closed, ends-given, batch-done}
 use Rattle.batch.proofs.lookup_batch_in.Goals as goal
 
@@ -44,14 +45,12 @@ invariant_of-server c =
       few = h.1.inside.fits (c.loop-k.k - 1) h.0;
     }
 
+-- the first part is that the parts fit into the machine's memory, which each call of a generic function asks
 pub step_all-requires : goal.step_all-requires
+unfolding column column_by
 step_all-requires c =
-    let t = table_of c.args.table.now in
-    let h = ready-there t c.args.medium.now c.args.tenant c.args.ids.now (c.loop-k.k - 1) (omega (arith, c.loop-k.invariant.below)) in
-    record {
-      of_the_table = refl;
-      by_index = λ i l. opened-few t c.args.medium.now c.args.tenant c.args.ids.now c.loop-k.k (columns_of c.loop-k.parts) c.loop-k.invariant.done i;
-    }
+    let few = opened-few (table_of c.args.table.now) c.args.medium.now c.args.tenant c.args.ids.now c.loop-k.k (columns_of c.loop-k.parts) c.loop-k.invariant.done in
+    (omega arith, (refl, λ i l. few i))
 
 -- a server that the code goes through is one of 256
 server-few : (t : Table) (m : List ℕ) (tenant : ℕ) (ids : List ℕ) (k : ℕ) → k < servers t m tenant ids → k < 256
@@ -70,11 +69,13 @@ overflow_add-mounts c =
     omega (arith, mounted-few t c.args.medium.now c.args.tenant c.args.ids.now c.loop-k.k (columns_of c.loop-k.parts) c.loop-k.mounts c.loop-k.invariant, h.1.inside.few)
 
 pub loop-k-preserved-then-has : goal.loop-k-preserved-then-has
+unfolding column column_by
 loop-k-preserved-then-has c =
     let from = last-from _ _ _ _ _ _ _ (omega arith) c.loop-k.invariant in
     batch-opened (table_of c.args.table.now) _ _ _ (c.loop-k.k - 1) _ _ from _ c.step_all.ensures (c.loop-k.k - 1 + 1) (omega arith) c.has.ensures c.if-has.true
 
 pub loop-k-preserved : goal.loop-k-preserved
+unfolding column column_by
 loop-k-preserved c =
     let from = last-from _ _ _ _ _ _ _ (omega arith) c.loop-k.invariant in
     batch-closed (table_of c.args.table.now) _ _ _ (c.loop-k.k - 1) _ _ from _ c.step_all.ensures (c.loop-k.k - 1 + 1) (omega arith) c.has.ensures c.if-has.false

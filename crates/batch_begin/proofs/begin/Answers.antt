@@ -17,7 +17,7 @@ still_zeros : (n : ℕ) → set {A = ℕ} (replicate 256 0) n 0 ≡ replicate 25
 still_zeros n = rw (nth-zeros 256 n) at (set-nth (replicate 256 0) n)
 
 -- one refusal more
-stored : (number tenant : ℕ) (ids : List ℕ) (n : ℕ) (parts : Parts) (refusal : Refusal)
+stored : (number tenant : ℕ) (ids : List ℕ) (n : ℕ) (parts : Parts LookupAnswer) (refusal : Refusal)
     → columns_of parts ≡ first_parts number tenant ids n → number_of refusal ≡ first_refusal number tenant (nth ids n)
     → columns_of (record { answers = set parts.answers n (record { value = Err refusal; opened = 0 }); ends = parts.ends })
     ≡ first_parts number tenant ids (n + 1)
