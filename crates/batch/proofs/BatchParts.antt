@@ -6,7 +6,7 @@ use mathlib.Core.Logic.{◌≢◌}
 use mathlib.Core.Bool.{Bool, true, false}
 use mathlib.Core.List.{List}
 use native.Mathlib.Omega.{arith}
-use lib.ListN.{length, get_or, replicate, take, length-replicate}
+use lib.ListN.{length, replicate, take, length-replicate}
 use Rattle.std.specs.Prelude.{Ok, All}
 use Rattle.std.proofs.lemmas.List.{get_or-take}
 use Rattle.std.proofs.lemmas.List.Elements.{All-from_get_or}
@@ -31,8 +31,7 @@ use Rattle.batch_begin.specs.declared.Parts.{Parts}
 use Rattle.batch_begin.specs.Begin.{Columns, columns_of, first_refusal, first_parts}
 use Rattle.batch.specs.Batch.{lookup_opens, opened_at, batch_rows, long_number, batch_reply}
 use Rattle.batch_steps.specs.Steps.{Progress, progress_at, with_parts, stepped_at, stepped_all}
-use Rattle.replies.proofs.Distinct.{lookup_opened}
-use Rattle.batch_answer.proofs.Columns.{column-at}
+use Rattle.batch_steps.proofs.Stepping.{opened-read}
 use Rattle.batch_answer.proofs.EndsFront.{length-front, front-some, front-ends}
 use Rattle.batch_answer.proofs.Filled.{filled_is}
 use Rattle.batch_answer.proofs.Orders.{mounts-few, order-none}
@@ -144,9 +143,8 @@ module _ (t : Table) (m : List ℕ) (tenant : ℕ) (ids : List ℕ) where
       (λ e. omega (arith, (d.rest i (ltb-false i n e)).2))
 
   pub answers-few : (k : ℕ) (parts : Parts LookupAnswer) → PartsFrom k (columns_of parts) → All (λ (a : LookupAnswer). a.opened < 4294967296) parts.answers
-  answers-few k parts d = let z : LookupAnswer = record { value = Ok 0; opened = 0 } in
-      All-from_get_or (λ (a : LookupAnswer). a.opened < 4294967296) parts.answers z
-      (λ i l. omega (arith, column-at (λ r. r.opened) parts.answers i z (lookup_opened z), lookup_opened (get_or parts.answers i z), opened-few k (columns_of parts) d i))
+  answers-few k parts d = All-from_get_or (λ (a : LookupAnswer). a.opened < 4294967296) parts.answers (record { value = Ok 0; opened = 0 })
+      (λ i l. omega (arith, opened-read parts i, opened-few k (columns_of parts) d i))
 
   -- all servers are done: the arrays are those of the single lookups
   module _ (parts : Columns) (done : PartsFrom 0 parts) where

@@ -88,11 +88,20 @@ unfolding found_or number_of
 absent-value (Ok v) n e = absurd (omega arith)
 absent-value (Err r) n e = ap Err (numbers_apart r NotFound e)
 
+-- the answer so far of an id and its end
+module _ (a : LookupAnswer) (end : ℕ) where
+  pub not-absent : a.value ≢ Err NotFound → (progress_of (reply_of_lookup a) end).refusal ≢ 8
+  unfolding reply_of_lookup
+  not-absent f e = f (absent-value a.value a.opened e)
+
+  pub is-absent : a.value ≡ Err NotFound → (progress_of (reply_of_lookup a) end).refusal ≡ 8
+  unfolding reply_of_lookup found_or number_of
+  is-absent v = rw v refl
+
 pub absent_by_value : (a : LookupAnswer) {b : Bool} → (b ≡ true → a.value ≡ Err NotFound) → (b ≡ false → a.value ≢ Err NotFound) → b ≡ eqb (reply_of_lookup a).refusal 8
-unfolding reply_of_lookup found_or number_of
 absent_by_value a {b} same other = by_bool b
-    (λ e. e ∙ sym (eq-eqb _ 8 (ap (λ (v : Result ℕ Refusal). (found_or v a.opened).refusal) (same e))))
-    (λ e. e ∙ sym (ne_eqb _ 8 (λ d. other e (absent-value a.value a.opened d))))
+    (λ e. e ∙ sym (eq-eqb _ 8 (is-absent a 0 (same e))))
+    (λ e. e ∙ sym (ne_eqb _ 8 (not-absent a 0 (other e))))
 
 -- a server more is opened for an id, and an entry is met there
 pub counted_answer : (a : LookupAnswer) → (reply_of_lookup a).refusal ≡ 8
@@ -106,22 +115,42 @@ pub met_answer : (a : LookupAnswer) (v : Result ℕ Refusal) → reply_of_lookup
 unfolding reply_of_lookup
 met_answer a v = ap (found_or v) (sym (lookup_opened a))
 
+-- how far the lookup of the id is then, with no entry there or with one
+module _ (a : LookupAnswer) (end : ℕ) (v : a.value ≡ Err NotFound) where
+  pub passed-answer : (e : ℕ) → progress_of (reply_of_lookup (record { value = a.value; opened = a.opened + 1 })) e
+      ≡ record { refusal = 8; value = 0; opened = (progress_of (reply_of_lookup a) end).opened + 1; end = e }
+  passed-answer e = ap (λ (x : Reply). progress_of x e) (counted_answer a (is-absent a end v))
+
+  pub met-answer : (w : Result ℕ Refusal) (e : ℕ) → progress_of (reply_of_lookup (record { value = w; opened = a.opened + 1 })) e
+      ≡ record {
+        refusal = (found_or w ((progress_of (reply_of_lookup a) end).opened + 1)).refusal;
+        value = (found_or w ((progress_of (reply_of_lookup a) end).opened + 1)).value;
+        opened = (progress_of (reply_of_lookup a) end).opened + 1;
+        end = e;
+      }
+  unfolding reply_of_lookup
+  met-answer w e = rw (lookup_opened a, lookup_opened (record { value = w; opened = a.opened + 1 })) refl
+
 -- answers to lookups have the columns of their replies
 pub columns-same : (parts : Parts LookupAnswer) → columns_by reply_of_lookup parts ≡ columns_of parts
 unfolding column_by column
 columns-same parts = refl
 
 -- such an answer is read at any position, since where there is none the numbers are 0
-pub part-read : (parts : Parts LookupAnswer) (i : ℕ)
-    → (let unanswered : LookupAnswer = record { value = Ok 0; opened = 0 } in
-    progress_of (reply_of_lookup (get_or parts.answers i unanswered)) (nth parts.ends i) ≡ progress_at (columns_of parts) i)
-unfolding reply_of_lookup found_or
-part-read parts i =
-    let unanswered : LookupAnswer = record { value = Ok 0; opened = 0 } in
-    let r = column-at (λ (x : Reply). x.refusal) parts.answers i unanswered refl in
-    let v = column-at (λ (x : Reply). x.value) parts.answers i unanswered refl in
-    let o = column-at (λ (x : Reply). x.opened) parts.answers i unanswered refl in
-    λ k. record { refusal = sym r k; value = sym v k; opened = sym o k; end = nth parts.ends i }
+module _ (parts : Parts LookupAnswer) (i : ℕ) where
+  abbrev unanswered : LookupAnswer
+  unanswered = record { value = Ok 0; opened = 0 }
+
+  pub part-read : progress_of (reply_of_lookup (get_or parts.answers i unanswered)) (nth parts.ends i) ≡ progress_at (columns_of parts) i
+  unfolding reply_of_lookup found_or
+  part-read =
+      let r = column-at (λ (x : Reply). x.refusal) parts.answers i unanswered refl in
+      let v = column-at (λ (x : Reply). x.value) parts.answers i unanswered refl in
+      let o = column-at (λ (x : Reply). x.opened) parts.answers i unanswered refl in
+      λ k. record { refusal = sym r k; value = sym v k; opened = sym o k; end = nth parts.ends i }
+
+  pub opened-read : (get_or parts.answers i unanswered).opened ≡ nth (columns_of parts).opened i
+  opened-read = sym (lookup_opened (get_or parts.answers i unanswered)) ∙ ap (λ (p : Progress). p.opened) part-read
 
 -- the parts of all ids by position, whatever numbers their answers have: read and stored
 module _ {A : Type 0} (numbers : A → Reply) (parts : Parts A) (i : ℕ) where

@@ -5,7 +5,7 @@ use mathlib.Core.Path.{◌≡◌, refl, sym, ap, ◌∙◌}
 use mathlib.Core.Bool.{Bool, true, false, cond}
 use mathlib.Core.List.{List}
 use Rattle.std.specs.Option.{ForSome}
-use Rattle.std.specs.Prelude.{Option, Some}
+use Rattle.std.specs.Prelude.{Option, None, Some}
 use lib.ListN.{length}
 use lib.Dec.{leb}
 use Rattle.lists.specs.Below.{nth}
@@ -19,6 +19,11 @@ use Rattle.dispatch.proofs.Some.{written-here, some-table}
 use Rattle.call_words.specs.CallWords.{lent, with_column}
 use Rattle.call_words.proofs.Columns.{used-stored, stored_same}
 use Rattle.call_words.proofs.Calling.{counts-there}
+
+-- what is no call leaves the words as they are
+pub no-call : (words m : List ℕ) → table_length ≤ length words → (o : Option Call) → o ≡ None → (n : ℕ) → words ≡ with_table words (some_next (lent words m) o n).table
+unfolding some_next
+no-call words m l o e n = rw e (sym (stored_same words l))
 
 module _ (words m : List ℕ) (o : Option Call) (l : table_length ≤ length words) (r : Reply) (e : r ≡ some_reply (lent words m) o) where
   -- where an entry is counted, its server is there and it fits
